@@ -1,0 +1,66 @@
+//! Random octets that are the same in every run.
+
+/// The variable that names another seed.
+const SEED_VARIABLE: &str = "WAKKEMOSUT_SEED";
+
+/// The seed where none is named.
+const USUAL_SEED: u64 = 20_260_101;
+
+/// The seed of this run.
+pub fn seed() -> u64 {
+    match std::env::var(SEED_VARIABLE) {
+        Ok(text) => text
+            .parse()
+            .unwrap_or_else(|_| panic!("{SEED_VARIABLE} is not a number: {text}")),
+        Err(_) => USUAL_SEED,
+    }
+}
+
+/// A source of random numbers (splitmix64).
+#[derive(Clone, Debug)]
+pub struct Random {
+    state: u64,
+}
+
+impl Random {
+    /// The source that starts from this seed.
+    pub fn new(seed: u64) -> Self {
+        Self { state: seed }
+    }
+
+    /// The next number.
+    pub fn number(&mut self) -> u64 {
+        self.state = self.state.wrapping_add(0x9E37_79B9_7F4A_7C15);
+        let mixed = (self.state ^ (self.state >> 30)).wrapping_mul(0xBF58_476D_1CE4_E5B9);
+        let mixed = (mixed ^ (mixed >> 27)).wrapping_mul(0x94D0_49BB_1331_11EB);
+        mixed ^ (mixed >> 31)
+    }
+
+    /// The next octets, as many as asked for.
+    pub fn octets(&mut self, count: usize) -> Vec<u8> {
+        (0..count).map(|_| self.number().to_be_bytes()[0]).collect()
+    }
+}
+
+#[cfg(test)]
+mod tests {
+    use super::*;
+
+    #[test]
+    fn the_numbers_are_those_of_splitmix64() {
+        let mut random = Random::new(1_234_567);
+        let numbers = [random.number(), random.number(), random.number()];
+        let published = [
+            6_457_827_717_110_365_317,
+            3_203_168_211_198_807_973,
+            9_817_491_932_198_370_423,
+        ];
+        assert_eq!(numbers, published);
+    }
+
+    #[test]
+    fn octets_are_as_many_as_asked_for() {
+        assert_eq!(Random::new(1).octets(17).len(), 17);
+        assert_eq!(Random::new(1).octets(0), []);
+    }
+}

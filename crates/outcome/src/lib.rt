@@ -1,0 +1,46 @@
+// What a call gives back (document 01, 'Numbers a call gives back').
+ghost use mathlib.Core.Path.{_≡_};
+ghost use Rattle.outcome.specs.Call.{refused, numbersOf};
+
+// The answer, the octets covered, the records (for a name: octets) written and the records needed.
+pub struct Outcome {
+    pub answer: u8,
+    pub covered: usize,
+    pub written: usize,
+    pub needed: usize,
+}
+
+impl Outcome {
+    // Done.
+    pub const DONE: u8 = 0;
+
+    // Registry not 0 to 5.
+    pub const NO_SUCH_REGISTRY: u8 = 1;
+
+    // Name longer than the lent octets.
+    pub const NAME_TOO_LONG: u8 = 9;
+
+    // A refusal: its number, and 0 for the rest.
+    pub fn refused(answer: u8) -> Outcome
+        ensures { λ r. ⌜ r ≡ refused answer ⌝ }
+    {
+        Outcome {
+            answer,
+            covered: 0,
+            written: 0,
+            needed: 0,
+        }
+    }
+
+    // Its four numbers, in document 01's order.
+    pub fn numbers(self) -> [u64; 4]
+        ensures { λ r. ⌜ r ≡ numbersOf self ⌝ }
+    {
+        [
+            self.answer as u64,
+            self.covered as u64,
+            self.written as u64,
+            self.needed as u64,
+        ]
+    }
+}

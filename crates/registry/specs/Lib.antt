@@ -1,0 +1,6 @@
+pub mod Registry
+pub mod Names
+pub mod NameCall
+pub mod NameCallLaws
+pub mod Packed
+pub mod PackedLaws

@@ -1,0 +1,50 @@
+//! The Rust module `sub_tlv.rs` of docs/src, built unchanged, and what it
+//! gives in the numbers of document 01.
+
+#![forbid(unsafe_code)]
+
+extern crate self as packet_dissector_core;
+
+pub mod batch;
+mod dump;
+pub mod field;
+mod labels;
+mod names;
+pub mod packet;
+mod records;
+mod registry;
+pub mod util;
+
+/// The module of docs/src.
+#[allow(dead_code)]
+#[rustfmt::skip]
+#[path = "../../docs/src/crates/packet-dissector-isis/src/sub_tlv.rs"]
+mod sub_tlv;
+
+pub use dump::dump;
+pub use names::{listing, name};
+pub use records::{Push, Record, push};
+pub use registry::LAST_REGISTRY;
+
+use std::io::{self, Write};
+
+use field::{FieldValue, FormatContext};
+
+/// Clears the bits of `prefix` after the first `bits`, by the module's own function.
+pub fn mask_prefix(prefix: &mut [u8], bits: usize) {
+    sub_tlv::mask_prefix(prefix, bits);
+}
+
+/// Writes an identifier as hex octets with dots between; stands in for a
+/// function of the original that is not in docs/src.
+fn format_isis_id(
+    value: &FieldValue<'_>,
+    _context: &FormatContext<'_>,
+    out: &mut dyn Write,
+) -> io::Result<()> {
+    let FieldValue::Bytes(octets) = value else {
+        return out.write_all(b"null");
+    };
+    let pairs: Vec<String> = octets.iter().map(|octet| format!("{octet:02x}")).collect();
+    write!(out, "\"{}\"", pairs.join("."))
+}

@@ -1,0 +1,79 @@
+//! Prints what the Rust module gives for cases on standard input.
+
+use std::error::Error;
+use std::ffi::OsString;
+use std::io::{self, Read, Write};
+use std::process::ExitCode;
+
+use oracle::batch::{mask_cases, push_cases};
+
+/// What the program says when it is called with other words.
+const USAGE: &str = "\
+usage: oracle push   a batch of pushes on standard input; prints the records of each
+       oracle names  prints all names
+       oracle mask   a batch of masks on standard input; prints each masked prefix";
+
+/// The end of a run: done, or a message for standard error.
+type Run = Result<(), Box<dyn Error>>;
+
+fn main() -> ExitCode {
+    let words: Vec<OsString> = std::env::args_os().skip(1).collect();
+    match run(&words) {
+        Ok(()) => ExitCode::SUCCESS,
+        Err(message) => {
+            eprintln!("{message}");
+            ExitCode::from(2)
+        }
+    }
+}
+
+/// Does what the words ask for.
+fn run(words: &[OsString]) -> Run {
+    match words {
+        [word] if word == "push" => print_pushes(),
+        [word] if word == "names" => print_names(),
+        [word] if word == "mask" => print_masks(),
+        _ => Err(USAGE.into()),
+    }
+}
+
+/// Prints the dump of every push on standard input.
+fn print_pushes() -> Run {
+    let batch = standard_input()?;
+    let mut out = io::BufWriter::new(io::stdout().lock());
+    for case in push_cases(&batch)? {
+        let push = oracle::push(case.registry, case.base, case.area);
+        out.write_all(oracle::dump(&push).as_bytes())?;
+    }
+    Ok(out.flush()?)
+}
+
+/// Prints all names.
+fn print_names() -> Run {
+    Ok(io::stdout().write_all(oracle::listing().as_bytes())?)
+}
+
+/// Prints every masked prefix of the batch on standard input.
+fn print_masks() -> Run {
+    let batch = standard_input()?;
+    let mut out = io::BufWriter::new(io::stdout().lock());
+    for case in mask_cases(&batch)? {
+        let mut prefix = case.prefix.to_vec();
+        oracle::mask_prefix(&mut prefix, case.bits as usize);
+        writeln!(out, "{}", hex(&prefix))?;
+    }
+    Ok(out.flush()?)
+}
+
+/// All octets of standard input.
+fn standard_input() -> io::Result<Vec<u8>> {
+    let mut octets = Vec::new();
+    io::stdin().lock().read_to_end(&mut octets)?;
+    Ok(octets)
+}
+
+/// Octets in lowercase hex with spaces between.
+fn hex(octets: &[u8]) -> String {
+    let pairs: Vec<String> = octets.iter().map(|octet| format!("{octet:02x}")).collect();
+    pairs.join(" ")
+}
