@@ -1,9 +1,9 @@
-// The C boundary (include/wakkemosut.h): each call, over slices and numbers.
+// The C boundary: each call over slices and numbers. A slice passes as a pointer and a length; where a call gives an
+// outcome, its four numbers go to a place that the caller lends.
 use octets::mask::mask_prefix;
 ghost use Rattle.octets.specs.Mask.{Masks};
 ghost use Rattle.outcome.specs.Call.{GivesNumbers};
-ghost use Rattle.registry.specs.Registry.{registryOf};
-ghost use Rattle.registry.specs.NameCall.{nameIn};
+ghost use Rattle.registry.specs.NameCall.{nameCall};
 
 // Clears the bits of `prefix` after the first `bits` bits.
 #[no_mangle]
@@ -16,7 +16,7 @@ pub extern "C" fn wakkemosut_mask(prefix: &mut [u8], bits: usize)
 // Writes the name of type `t` of a registry to the front of `out`, and the outcome to `numbers`.
 #[no_mangle]
 pub extern "C" fn wakkemosut_name(registry: u64, t: u64, out: &mut [u8], numbers: &mut [u64; 4])
-    ensures { λ _. ⌜ GivesNumbers (nameIn (registryOf registry) t (now (out .entry))) (now (numbers .exit)) (now (out .exit)) ⌝ }
+    ensures { λ _. ⌜ GivesNumbers (nameCall registry t (now (out .entry))) (now (numbers .exit)) (now (out .exit)) ⌝ }
 {
     let outcome = registry::name(registry, t, out);
     *numbers = outcome.numbers();

@@ -30,3 +30,8 @@ pub inFront-whole : (to from : List ℕ) → length to ≡ length from → inFro
 unfolding inFront
 inFront-whole to from h =
     let none : drop (length from) to ≡ [] = subst (λ (k : ℕ). drop k to ≡ []) h (drop-length to) in simp (none, append-nil)
+
+-- the octets after what was copied stay
+pub inFront-after : (to from : List ℕ) (i : ℕ) → getD (inFront from to) (length from + i) 0 ≡ getD to (length from + i) 0
+unfolding inFront
+inFront-after to from i = getD-append-add from (drop (length from) to) i 0 ∙ getD-drop (length from) to i 0

@@ -19,7 +19,7 @@ fn keep(x: u8, bits: usize) -> u8
 fn less_an_octet(bits: usize) -> usize
     ensures { λ r. ⌜ r ≡ bits - 8 ⌝ }
 {
-    if 8 <= bits { bits - 8 } else { 0 }
+    if bits < 8 { 0 } else { bits - 8 }
 }
 
 // Clears the bits of `prefix` after the first `bits` bits.

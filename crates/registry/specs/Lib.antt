@@ -1,4 +1,5 @@
 pub mod Registry
+pub mod RegistryLaws
 pub mod Names
 pub mod NameCall
 pub mod NameCallLaws

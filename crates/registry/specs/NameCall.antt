@@ -7,6 +7,7 @@ use lib.ListN.{length}
 use Rattle.outcome.specs.Call.{After, refusal}
 use Rattle.octets.specs.Copy.{inFront}
 use Rattle.registry.specs.Names.{nameOf}
+use Rattle.registry.specs.Registry.{registryOf}
 use Rattle.registry.specs.declared.Found.{Found}
 use Rattle.registry.specs.declared.Found.the-variants.{Known, Unknown}
 
@@ -21,3 +22,7 @@ named name lent =
 unfoldable pub nameIn : Found → ℕ → List ℕ → After
 nameIn Unknown t lent = refusal 1 lent
 nameIn (Known registry) t lent = named (nameOf registry t) lent
+
+-- the call, from registry number, type and lent octets
+abbrev pub nameCall : ℕ → ℕ → List ℕ → After
+nameCall registry t lent = nameIn (registryOf registry) t lent

@@ -1,10 +1,11 @@
 -- Laws of the call `name`, one for each of its returns.
 use mathlib.Core.Path.{_≡_, refl, sym, _∙_}
 use Prim.Native.Nat.{ℕ, _≤_, _<_}
-use mathlib.Core.List.{List}
+use mathlib.Core.List.{List, []}
 use native.Mathlib.Decide.{decLe}
 use native.Mathlib.Omega.{arith}
 use borrow.Author.Tests.{le-leb, lt-leb}
+use lib.Dec.{leb·zero}
 use lib.ListN.{length}
 use Rattle.outcome.specs.Call.{After, Gives, refused}
 use Rattle.outcome.specs.declared.Outcome.{Outcome}
@@ -28,6 +29,11 @@ unfolding named
 named-fits {name} {found} lent is short front =
     let fits : length name ≤ length lent = rw is at short in
     record { gave = rw (le-leb (length name) (length lent) fits, is); left = rw (le-leb (length name) (length lent) fits) (rw is at front) }
+
+-- a type without a name gives length 0 and changes nothing
+pub named-none : (lent : List ℕ) → named [] lent ≡ record { outcome = record { answer = 0; covered = 0; written = 0; needed = 0 }; lent = lent }
+unfolding named inFront
+named-none lent = rw (leb·zero (length lent))
 
 -- nameIn
 

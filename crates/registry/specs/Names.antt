@@ -13,7 +13,7 @@ abbrev pub Name : Type 0
 Name = ℕ × String
 
 -- IANA, IS-IS Sub-TLVs for TLVs Advertising Neighbor Information
-unfoldable pub neighbor : List Name
+abbrev pub neighbor : List Name
 neighbor =
     (3, "Administrative group (color)") ∷
     (4, "Link Local/Remote Identifiers") ∷
@@ -60,7 +60,7 @@ neighbor =
     []
 
 -- IANA, IS-IS Sub-TLVs for TLVs Advertising Prefix Reachability
-unfoldable pub prefix : List Name
+abbrev pub prefix : List Name
 prefix =
     (1, "32-bit Administrative Tag") ∷
     (2, "64-bit Administrative Tag") ∷
@@ -74,7 +74,7 @@ prefix =
     []
 
 -- IANA, IS-IS Sub-TLVs for IS-IS Router CAPABILITY TLV
-unfoldable pub routerCapability : List Name
+abbrev pub routerCapability : List Name
 routerCapability =
     (1, "TE Node Capability Descriptor") ∷
     (2, "Segment Routing Capability") ∷
@@ -110,20 +110,20 @@ routerCapability =
     []
 
 -- IANA, IS-IS Sub-TLVs for Segment Identifier/Label Binding TLVs
-unfoldable pub binding : List Name
+abbrev pub binding : List Name
 binding =
     (1, "SID/Label") ∷
     (3, "Prefix Segment Identifier") ∷
     []
 
 -- IANA, IS-IS Sub-Sub-TLVs for SRv6 SID Sub-TLVs
-unfoldable pub srv6Sid : List Name
+abbrev pub srv6Sid : List Name
 srv6Sid =
     (1, "SRv6 SID Structure") ∷
     []
 
 -- the names of a registry; none are registered for sub-sub-TLVs of SRv6 Capabilities (RFC 9352, section 2)
-unfoldable pub namesOf : Registry → List Name
+abbrev pub namesOf : Registry → List Name
 namesOf Neighbor = neighbor
 namesOf Prefix = prefix
 namesOf RouterCapability = routerCapability
@@ -137,7 +137,7 @@ find [] t = ""
 find (n ∷ ns) t = cond (eqb (n .0) t) (n .1) (find ns t)
 
 -- a text of ASCII as octets
-unfoldable pub octets : String → List ℕ
+abbrev pub octets : String → List ℕ
 octets none = []
 octets (more c s) = code c ∷ octets s
 

@@ -4,6 +4,6 @@ use mathlib.Core.List.{List, [], _∷_, _++_}
 use lib.ListN.{length}
 use Rattle.registry.specs.Names.{Name, octets}
 
-unfoldable pub packed : List Name → List ℕ
+abbrev pub packed : List Name → List ℕ
 packed [] = []
 packed (n ∷ ns) = n .0 ∷ length (octets (n .1)) ∷ (octets (n .1) ++ packed ns)

@@ -25,7 +25,7 @@ pub record Entry (names : List ℕ) (all : List Name) (t at : ℕ) : Type 0 wher
 
 module _ (names : List ℕ) (all : List Name) (t at : ℕ) (before-end : at < length names) where
   entry-of : (rest : List Name) → drop at names ≡ packed rest → find rest t ≡ find all t → Entry names all t at
-  unfolding packed find
+  unfolding find
   entry-of [] here same = absurd (omega (arith, sym (length-drop at names) ∙ ap length here))
   entry-of (n ∷ ns) here same =
       let text = octets (n .1) in
@@ -58,7 +58,7 @@ left-all names all t e = record { rest = all; here = e; same = refl }
 
 -- .. and where none are left, the type has no name
 pub left-none : (names : List ℕ) (all : List Name) (t at : ℕ) → length names ≤ at → Left names all t at → octets (find all t) ≡ []
-unfolding packed find octets
+unfolding find
 left-none names all t at past left = none-of (left .rest) (left .here) (left .same)
   where
     none-of : (rest : List Name) → drop at names ≡ packed rest → find rest t ≡ find all t → octets (find all t) ≡ []

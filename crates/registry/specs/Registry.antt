@@ -7,6 +7,7 @@ use Rattle.registry.specs.declared.Registry.the-variants.{Neighbor, Pref
 use Rattle.registry.specs.declared.Found.{Found}
 use Rattle.registry.specs.declared.Found.the-variants.{Known, Unknown}
 
+-- the number of a registry
 abbrev pub numberOf : Registry → ℕ
 numberOf Neighbor = 0
 numberOf Prefix = 1
@@ -15,6 +16,7 @@ numberOf Binding = 3
 numberOf Srv6Sid = 4
 numberOf Unregistered = 5
 
+-- the level of a registry: nested or not
 abbrev pub isNested : Registry → Bool
 isNested Neighbor = false
 isNested Prefix = false

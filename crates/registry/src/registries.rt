@@ -1,14 +1,22 @@
-// Each registry, with its number, its level and its names as constants of its own.
+// Each registry as a type, with its number, its level and its names as constants of its own, and its name lookup.
+use crate::Registry;
+use crate::lookup::write_name;
+use outcome::Outcome;
+ghost use Rattle.outcome.specs.Call.{Gives};
+ghost use Rattle.registry.specs.Names.{nameOf};
+ghost use Rattle.registry.specs.NameCall.{named};
 
 // IANA, IS-IS Sub-TLVs for TLVs Advertising Neighbor Information.
 pub struct Neighbor;
 
 impl Neighbor {
+    // Its number.
     pub const NUMBER: u64 = 0;
 
+    // Its level: whether it is nested.
     pub const NESTED: bool = false;
 
-    // For each name: the type, the length, the text.
+    // Its names: for each the type, the length, the text.
     pub const NAMES: [u8; 1092] = *b"\
         \x03\x1cAdministrative group (color)\
         \x04\x1dLink Local/Remote Identifiers\
@@ -53,17 +61,26 @@ impl Neighbor {
         \x2d\x1aIPv6 Local ASBR Identifier\
         \xa1\x19Flood Reflector Adjacency\
         ";
+
+    // Writes the name of type `t` to the front of `out`.
+    pub fn name(t: u64, out: &mut [u8]) -> Outcome
+        ensures { λ r. ⌜ Gives (named (nameOf Registry.Neighbor t) (now (out .entry))) r (now (out .exit)) ⌝ }
+    {
+        write_name(Registry::Neighbor, &Self::NAMES, t, out)
+    }
 }
 
 // IANA, IS-IS Sub-TLVs for TLVs Advertising Prefix Reachability.
 pub struct Prefix;
 
 impl Prefix {
+    // Its number.
     pub const NUMBER: u64 = 1;
 
+    // Its level: whether it is nested.
     pub const NESTED: bool = false;
 
-    // For each name: the type, the length, the text.
+    // Its names: for each the type, the length, the text.
     pub const NAMES: [u8; 217] = *b"\
         \x01\x1932-bit Administrative Tag\
         \x02\x1964-bit Administrative Tag\
@@ -75,17 +92,26 @@ impl Prefix {
         \x0c\x15IPv6 Source Router ID\
         \x20\x09BIER Info\
         ";
+
+    // Writes the name of type `t` to the front of `out`.
+    pub fn name(t: u64, out: &mut [u8]) -> Outcome
+        ensures { λ r. ⌜ Gives (named (nameOf Registry.Prefix t) (now (out .entry))) r (now (out .exit)) ⌝ }
+    {
+        write_name(Registry::Prefix, &Self::NAMES, t, out)
+    }
 }
 
 // IANA, IS-IS Sub-TLVs for IS-IS Router CAPABILITY TLV.
 pub struct RouterCapability;
 
 impl RouterCapability {
+    // Its number.
     pub const NUMBER: u64 = 2;
 
+    // Its level: whether it is nested.
     pub const NESTED: bool = false;
 
-    // For each name: the type, the length, the text.
+    // Its names: for each the type, the length, the text.
     pub const NAMES: [u8; 638] = *b"\
         \x01\x1dTE Node Capability Descriptor\
         \x02\x1aSegment Routing Capability\
@@ -119,45 +145,79 @@ impl RouterCapability {
         \x1e\x2dMP-TLV Support for TLVs with Implicit Support\
         \xa1\x1aFlood Reflection Discovery\
         ";
+
+    // Writes the name of type `t` to the front of `out`.
+    pub fn name(t: u64, out: &mut [u8]) -> Outcome
+        ensures { λ r. ⌜ Gives (named (nameOf Registry.RouterCapability t) (now (out .entry))) r (now (out .exit)) ⌝ }
+    {
+        write_name(Registry::RouterCapability, &Self::NAMES, t, out)
+    }
 }
 
 // IANA, IS-IS Sub-TLVs for Segment Identifier/Label Binding TLVs.
 pub struct Binding;
 
 impl Binding {
+    // Its number.
     pub const NUMBER: u64 = 3;
 
+    // Its level: whether it is nested.
     pub const NESTED: bool = false;
 
-    // For each name: the type, the length, the text.
+    // Its names: for each the type, the length, the text.
     pub const NAMES: [u8; 38] = *b"\
         \x01\x09SID/Label\
         \x03\x19Prefix Segment Identifier\
         ";
+
+    // Writes the name of type `t` to the front of `out`.
+    pub fn name(t: u64, out: &mut [u8]) -> Outcome
+        ensures { λ r. ⌜ Gives (named (nameOf Registry.Binding t) (now (out .entry))) r (now (out .exit)) ⌝ }
+    {
+        write_name(Registry::Binding, &Self::NAMES, t, out)
+    }
 }
 
 // IANA, IS-IS Sub-Sub-TLVs for SRv6 SID Sub-TLVs.
 pub struct Srv6Sid;
 
 impl Srv6Sid {
+    // Its number.
     pub const NUMBER: u64 = 4;
 
+    // Its level: whether it is nested.
     pub const NESTED: bool = true;
 
-    // For each name: the type, the length, the text.
+    // Its names: for each the type, the length, the text.
     pub const NAMES: [u8; 20] = *b"\
         \x01\x12SRv6 SID Structure\
         ";
+
+    // Writes the name of type `t` to the front of `out`.
+    pub fn name(t: u64, out: &mut [u8]) -> Outcome
+        ensures { λ r. ⌜ Gives (named (nameOf Registry.Srv6Sid t) (now (out .entry))) r (now (out .exit)) ⌝ }
+    {
+        write_name(Registry::Srv6Sid, &Self::NAMES, t, out)
+    }
 }
 
 // Sub-sub-TLVs without a registry, those of SRv6 Capabilities (RFC 9352, section 2).
 pub struct Unregistered;
 
 impl Unregistered {
+    // Its number.
     pub const NUMBER: u64 = 5;
 
+    // Its level: whether it is nested.
     pub const NESTED: bool = true;
 
-    // No names.
+    // Its names: none.
     pub const NAMES: [u8; 0] = *b"";
+
+    // Writes the name of type `t` to the front of `out`.
+    pub fn name(t: u64, out: &mut [u8]) -> Outcome
+        ensures { λ r. ⌜ Gives (named (nameOf Registry.Unregistered t) (now (out .entry))) r (now (out .exit)) ⌝ }
+    {
+        write_name(Registry::Unregistered, &Self::NAMES, t, out)
+    }
 }

@@ -1,3 +1,4 @@
+-- The call's outcome, as numbers.
 use borrow.Author.Needs.{needs}
 use Rattle.outcome.specs.Call.{gives-numbers}
 use Rattle.capi.proofs.wakkemosut_name.Statement.{statement}

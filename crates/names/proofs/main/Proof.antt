@@ -1,3 +1,4 @@
+-- The registries 0 to 5, one after the other.
 use Prim.Native.Nat.{_-_, _≤_}
 use native.Mathlib.Omega.{arith}
 use Rattle.names.proofs.main.Statement.{statement}

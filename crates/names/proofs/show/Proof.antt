@@ -1,3 +1,4 @@
+-- What a name call writes lies in what was lent.
 use mathlib.Core.Path.{sym, ap}
 use Prim.Native.Nat.{_≤_}
 use native.Mathlib.Omega.{arith}

@@ -1,3 +1,4 @@
+-- The types 0 to 255, one after the other.
 use Prim.Native.Nat.{_-_, _≤_}
 use native.Mathlib.Omega.{arith}
 use Rattle.names.proofs.show_registry.Statement.{statement}

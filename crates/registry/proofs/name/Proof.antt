@@ -1,3 +1,4 @@
+-- The registry of the number, or refusal 1.
 use mathlib.Core.Path.{sym, _∙_}
 use Rattle.registry.specs.NameCallLaws.{unknown-refused, known-named}
 use borrow.Author.Needs.{needs}

@@ -1,3 +1,4 @@
+-- The loop: after i turns the first i octets are those of `from`.
 use mathlib.Core.Path.{_≡_, refl, _∙_}
 use Prim.Native.Nat.{_-_, _≤_}
 use native.Mathlib.Omega.{arith}

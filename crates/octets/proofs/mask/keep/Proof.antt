@@ -1,3 +1,4 @@
+-- The octet less its remainder by the unit of the bits that are cleared.
 use mathlib.Core.Path.{sym}
 use Prim.Native.Nat.{_-_}
 use native.Mathlib.Nat.{mod-le}

@@ -1,3 +1,4 @@
+-- The loop: after i turns the first i octets are masked, and `left` is what is left of the bits.
 use mathlib.Core.Path.{_≡_, refl, sym, _∙_}
 use Prim.Native.Nat.{_-_, _*_, _≤_}
 use native.Mathlib.Omega.{arith}

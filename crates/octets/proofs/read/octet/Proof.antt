@@ -1,3 +1,4 @@
+-- An octet is a number of width 1.
 use mathlib.Core.Path.{sym}
 use borrow.Author.Needs.{needs}
 use Rattle.octets.specs.BigEndianLaws.{bigEndian-one}

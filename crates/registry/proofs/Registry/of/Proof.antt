@@ -1,3 +1,4 @@
+-- A number of the table, or none of them.
 use borrow.Author.Tests.{ne-eqb}
 use Rattle.registry.specs.Registry.{registryOf}
 use Rattle.registry.proofs.Registry.of.Statement.{statement}

@@ -1,7 +1,8 @@
+-- The name that was found fits, or is refused.
 use Rattle.registry.specs.NameCallLaws.{named-long, named-fits}
 use borrow.Author.Needs.{needs}
-use Rattle.registry.proofs.Registry.write.Statement.{statement}
-use Rattle.registry.proofs.Registry.write.Tie as tie
+use Rattle.registry.proofs.lookup.write_name.Statement.{statement}
+use Rattle.registry.proofs.lookup.write_name.Tie as tie
 
 find-requires : tie.Need-find-requires
 find-requires c κs = search needs
@@ -21,7 +22,7 @@ same-length c = search needs
 returns-2 : tie.Need-returns-2
 returns-2 c = named-fits _ (c .before .before .before .before .before .find .ensures) (c .before .before .before .before .if1 .left) (c .before .before .copy-to-front .ensures)
 
-pub write-spec : {M : Type 1} → statement M
-write-spec =
+pub write-name-spec : {M : Type 1} → statement M
+write-name-spec =
     tie.close
     (tie.spec find-requires refused-requires returns copy-to-front-requires same-length returns-2)

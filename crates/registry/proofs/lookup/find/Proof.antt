@@ -1,3 +1,4 @@
+-- The loop: from `at` on stand names that give the type what all give it, whatever table the octets are packed from.
 use mathlib.Core.Path.{_≡_, sym}
 use mathlib.Core.List.{List}
 use Prim.Native.Nat.{ℕ, _-_}
@@ -6,8 +7,8 @@ use lib.ListN.{length}
 use Rattle.registry.specs.Names.{Name, namesOf, nameOf}
 use Rattle.registry.specs.Packed.{packed}
 use Rattle.registry.specs.PackedLaws.{Left, Entry, entry, left-all, left-none}
-use Rattle.registry.proofs.Registry.find.Statement.{statement}
-use Rattle.registry.proofs.Registry.find.Tie as tie
+use Rattle.registry.proofs.lookup.find.Statement.{statement}
+use Rattle.registry.proofs.lookup.find.Tie as tie
 
 abbrev Inv-loop : tie.InvT-loop
 Inv-loop names t at₀ at = (all : List Name) → names ≡ packed all → Left names all t at
@@ -19,7 +20,7 @@ loop-holds : tie.Need-loop-holds Inv-loop μ-loop
 loop-holds c all e = left-all _ all _ e
 
 -- the entry that a turn looks at
-here : (c : tie.In-loop Inv-loop μ-loop) → Entry (c .before .before .args .names .now) (namesOf (c .before .before .args .self)) (c .before .before .args .t) (c .before .loop .at)
+here : (c : tie.In-loop Inv-loop μ-loop) → Entry (c .before .before .args .names .now) (namesOf (c .before .before .args .registry)) (c .before .before .args .t) (c .before .loop .at)
 here c = entry _ _ _ _ (c .loop-test .taken) (c .before .loop .inv _ (c .before .before .pre))
 
 add-start : tie.Need-add-start Inv-loop μ-loop
