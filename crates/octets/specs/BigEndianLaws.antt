@@ -1,5 +1,5 @@
 -- Laws of big-endian numbers, over the width.
-use mathlib.Core.Path.{_≡_, refl, sym, _∙_, ap}
+use mathlib.Core.Path.{_≡_, sym}
 use Prim.Native.Nat.{ℕ, zero, suc, _+_, _*_, _^_}
 use mathlib.Core.List.{List}
 use native.Mathlib.Nat.{add-zero, zero-add, add-suc, add-assoc, pow-suc, mul-one}

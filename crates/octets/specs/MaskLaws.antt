@@ -13,12 +13,14 @@ use Rattle.octets.specs.CopyLaws.{copy-more, not-yet}
 -- kept
 
 -- the unit of the bits that are cleared, as a shift gives it
-pub unit-is : (k : ℕ) → k ≤ 8 → (1 * 2 ^ k) % 18446744073709551616 ≡ 2 ^ k
+pub unit-is : (k : ℕ) → k ≤ 8 → (1 * 2 ^ k) % 2 ^ 64 ≡ 2 ^ k
 unit-is k h = rw one-mul (mod-eq-of-lt (lt-of-le-of-lt (pow-le-pow-right {n = 2} (omega arith) {i = k} {j = 8} h) (omega arith)))
 
-pub unit-pos : (k : ℕ) → k ≤ 8 → 0 < (1 * 2 ^ k) % 18446744073709551616
+-- .. is not 0
+pub unit-pos : (k : ℕ) → k ≤ 8 → 0 < (1 * 2 ^ k) % 2 ^ 64
 unit-pos k h = rw (unit-is k h) (pow-pos k)
 
+-- from 8 bits on, the octet stays
 pub kept-whole : (b x : ℕ) → 8 ≤ b → kept b x ≡ x
 unfolding kept
 kept-whole b x h = let none : 8 - b ≡ 0 = omega arith in rw (none, mod-one, sub-zero)
@@ -49,6 +51,7 @@ kept-low b x j h =
 
 -- masked
 
+-- as many octets as before
 pub masked-length : (b : ℕ) (xs : List ℕ) → length (masked b xs) ≡ length xs
 unfolding masked
 masked-length b [] = refl
@@ -67,7 +70,9 @@ unfolding masked
 masked-past b [] h = refl
 masked-past b (x ∷ xs) h = rw (kept-whole b x (omega arith), masked-past (b - 8) xs (omega arith))
 
--- Bits after the first b become 0 ..
+-- bit
+
+-- bits after the first b become 0 ..
 pub bit-cleared : (b : ℕ) (xs : List ℕ) (k : ℕ) → b ≤ k → bit (masked b xs) k ≡ 0
 unfolding bit
 bit-cleared b xs k h = rw (masked-at b xs (k / 8)) (kept-low (b - k / 8 * 8) (getD xs (k / 8) 0) (7 - k % 8) (omega arith))
@@ -76,6 +81,8 @@ bit-cleared b xs k h = rw (masked-at b xs (k / 8)) (kept-low (b - k / 8 * 8) (ge
 pub bit-kept : (b : ℕ) (xs : List ℕ) (k : ℕ) → k < b → bit (masked b xs) k ≡ bit xs k
 unfolding bit
 bit-kept b xs k h = rw (masked-at b xs (k / 8), kept-high (b - k / 8 * 8) (getD xs (k / 8) 0) (7 - k % 8) (omega arith))
+
+-- the loop
 
 -- a turn of the loop that masks
 pub mask-more : (b : ℕ) (xs now : List ℕ) (i left r : ℕ) → i < length xs → now ≡ paste xs 0 (masked b xs) i → left ≡ b - i * 8 → r ≡ kept left (getD now i 0) → set now i r ≡ paste xs 0 (masked b xs) (i + 1)

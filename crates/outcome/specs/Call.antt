@@ -1,5 +1,5 @@
 -- What a call gives back and leaves, and the form of every call's contract.
-use mathlib.Core.Path.{_≡_, sym, _∙_, ap}
+use mathlib.Core.Path.{_≡_}
 use mathlib.Core.List.{List, [], _∷_}
 use Prim.Native.Nat.{ℕ}
 use Rattle.outcome.specs.declared.Outcome.{Outcome}
@@ -22,10 +22,6 @@ pub record Gives (meant : After) (outcome : Outcome) (exit : List ℕ) : Type 0 
   pub gave : outcome ≡ meant .outcome
   pub left : exit ≡ meant .lent
 
--- two results that meet a call's contract are equal
-pub gives-unique : {meant : After} {one other : Outcome} {exit exit′ : List ℕ} → Gives meant one exit → Gives meant other exit′ → (one ≡ other) × (exit ≡ exit′)
-gives-unique a b = (a .gave ∙ sym (b .gave), a .left ∙ sym (b .left))
-
 -- the four numbers of an outcome, as they cross the C boundary
 abbrev pub numbersOf : Outcome → List ℕ
 numbersOf o = o .answer ∷ o .covered ∷ o .written ∷ o .needed ∷ []
@@ -34,11 +30,3 @@ numbersOf o = o .answer ∷ o .covered ∷ o .written ∷ o .needed ∷ []
 pub record GivesNumbers (meant : After) (numbers exit : List ℕ) : Type 0 where
   pub gave : numbers ≡ numbersOf (meant .outcome)
   pub left : exit ≡ meant .lent
-
--- two results that meet such a contract are equal
-pub numbers-unique : {meant : After} {one other exit exit′ : List ℕ} → GivesNumbers meant one exit → GivesNumbers meant other exit′ → (one ≡ other) × (exit ≡ exit′)
-numbers-unique a b = (a .gave ∙ sym (b .gave), a .left ∙ sym (b .left))
-
--- from the one contract to the other
-pub gives-numbers : {meant : After} {outcome : Outcome} {numbers exit : List ℕ} → numbers ≡ numbersOf outcome → Gives meant outcome exit → GivesNumbers meant numbers exit
-gives-numbers {meant} wrote a = record { gave = wrote ∙ ap numbersOf (a .gave); left = a .left }

@@ -1,5 +1,5 @@
 -- Laws of the call `name`, one for each of its returns.
-use mathlib.Core.Path.{_≡_, refl, sym, _∙_}
+use mathlib.Core.Path.{_≡_}
 use Prim.Native.Nat.{ℕ, _≤_, _<_}
 use mathlib.Core.List.{List, []}
 use native.Mathlib.Decide.{decLe}
@@ -7,7 +7,7 @@ use native.Mathlib.Omega.{arith}
 use borrow.Author.Tests.{le-leb, lt-leb}
 use lib.Dec.{leb·zero}
 use lib.ListN.{length}
-use Rattle.outcome.specs.Call.{After, Gives, refused}
+use Rattle.outcome.specs.Call.{Gives, refused}
 use Rattle.outcome.specs.declared.Outcome.{Outcome}
 use Rattle.octets.specs.Copy.{inFront}
 use Rattle.registry.specs.Names.{nameOf}
@@ -18,12 +18,14 @@ use Rattle.registry.specs.declared.Found.the-variants.{Known, Unknown}
 
 -- named
 
+-- a name that does not fit is refused
 pub named-long : {name found : List ℕ} (lent : List ℕ) {r : Outcome} → found ≡ name → length lent < length found → r ≡ refused 9 → Gives (named name lent) r lent
 unfolding named
 named-long {name} {found} lent is long gave =
     let longer : length lent < length name = rw is at long in
     record { gave = rw (lt-leb (length name) (length lent) longer) gave; left = rw (lt-leb (length name) (length lent) longer) }
 
+-- one that fits is in front
 pub named-fits : {name found : List ℕ} (lent : List ℕ) {exit : List ℕ} → found ≡ name → length found ≤ length lent → exit ≡ inFront found lent → Gives (named name lent) (record { answer = 0; covered = 0; written = length found; needed = 0 }) exit
 unfolding named
 named-fits {name} {found} lent is short front =
@@ -37,10 +39,12 @@ named-none lent = rw (leb·zero (length lent))
 
 -- nameIn
 
+-- a number that no registry has
 pub unknown-refused : {found : Found} (t : ℕ) (lent : List ℕ) {r : Outcome} → found ≡ Unknown → r ≡ refused 1 → Gives (nameIn found t lent) r lent
 unfolding nameIn
 unknown-refused t lent is gave = record { gave = rw is gave; left = rw is }
 
+-- a registry's number
 pub known-named : {found : Found} {registry : Registry} (t : ℕ) (lent : List ℕ) {exit : List ℕ} {r : Outcome} → found ≡ Known registry → Gives (named (nameOf registry t) lent) r exit → Gives (nameIn found t lent) r exit
 unfolding nameIn
 known-named t lent is gives = record { gave = rw is (gives .gave); left = rw is (gives .left) }

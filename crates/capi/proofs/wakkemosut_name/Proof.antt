@@ -1,6 +1,6 @@
 -- The call's outcome, as numbers.
 use borrow.Author.Needs.{needs}
-use Rattle.outcome.specs.Call.{gives-numbers}
+use Rattle.outcome.specs.CallLaws.{gives-numbers}
 use Rattle.capi.proofs.wakkemosut_name.Statement.{statement}
 use Rattle.capi.proofs.wakkemosut_name.Tie as tie
 

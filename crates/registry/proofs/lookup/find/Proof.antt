@@ -1,7 +1,7 @@
 -- The loop: from `at` on stand names that give the type what all give it, whatever table the octets are packed from.
 use mathlib.Core.Path.{_≡_, sym}
 use mathlib.Core.List.{List}
-use Prim.Native.Nat.{ℕ, _-_}
+use Prim.Native.Nat.{_-_}
 use native.Mathlib.Omega.{arith}
 use lib.ListN.{length}
 use Rattle.registry.specs.Names.{Name, namesOf, nameOf}

@@ -1,0 +1,18 @@
+-- Laws of the calls' contracts.
+use mathlib.Core.Path.{_≡_, sym, _∙_, ap}
+use mathlib.Core.List.{List}
+use Prim.Native.Nat.{ℕ}
+use Rattle.outcome.specs.Call.{After, Gives, GivesNumbers, numbersOf}
+use Rattle.outcome.specs.declared.Outcome.{Outcome}
+
+-- two results that meet a call's contract are equal
+pub gives-unique : {meant : After} {one other : Outcome} {exit exit′ : List ℕ} → Gives meant one exit → Gives meant other exit′ → (one ≡ other) × (exit ≡ exit′)
+gives-unique a b = (a .gave ∙ sym (b .gave), a .left ∙ sym (b .left))
+
+-- two results that meet such a contract are equal
+pub numbers-unique : {meant : After} {one other exit exit′ : List ℕ} → GivesNumbers meant one exit → GivesNumbers meant other exit′ → (one ≡ other) × (exit ≡ exit′)
+numbers-unique a b = (a .gave ∙ sym (b .gave), a .left ∙ sym (b .left))
+
+-- from the one contract to the other
+pub gives-numbers : {meant : After} {outcome : Outcome} {numbers exit : List ℕ} → numbers ≡ numbersOf outcome → Gives meant outcome exit → GivesNumbers meant numbers exit
+gives-numbers {meant} wrote a = record { gave = wrote ∙ ap numbersOf (a .gave); left = a .left }
