@@ -72,6 +72,7 @@ fn a_bit_count_past_the_end_changes_nothing() {
         for length in 0..=MOST_OCTETS {
             for prefix in prefixes(&mut random, length) {
                 assert_mask(&prefix, bits, &prefix);
+                assert_as_oracle(&prefix, bits);
             }
         }
     }

@@ -41,18 +41,4 @@ mod tests {
         assert_eq!(name(4, 1), Some("SRv6 SID Structure"));
         assert_eq!(name(5, 1), None);
     }
-
-    #[test]
-    fn the_listing_has_a_line_for_each_name() {
-        let listing = listing();
-        assert!(listing.starts_with("0 3 Administrative group (color)\n0 4 "));
-        assert!(listing.ends_with("\n4 1 SRv6 SID Structure\n"));
-        assert_eq!(listing.lines().count(), named_types());
-    }
-
-    /// The number of types that have a name.
-    fn named_types() -> usize {
-        let all = (0..=LAST_REGISTRY).flat_map(|r| (0..=u8::MAX).map(move |t| name(r, t)));
-        all.flatten().count()
-    }
 }

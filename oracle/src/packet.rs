@@ -63,11 +63,6 @@ impl<'pkt> DissectBuffer<'pkt> {
         &self.fields
     }
 
-    /// Takes all fields out.
-    pub fn clear(&mut self) {
-        self.fields.clear();
-    }
-
     /// The number of fields.
     fn count(&self) -> u32 {
         u32::try_from(self.fields.len()).expect("a field position fits 32 bits")
@@ -94,17 +89,5 @@ mod tests {
         assert_eq!(list, 1);
         assert_eq!(buffer.fields()[1].value, FieldValue::Array(2..4));
         assert_eq!(buffer.fields().len(), 5);
-    }
-
-    #[test]
-    fn a_cleared_buffer_starts_again_at_position_0() {
-        let mut buffer = DissectBuffer::new();
-        buffer.push_field(&ITEM, FieldValue::U8(1), 0..1);
-        buffer.clear();
-        assert!(buffer.fields().is_empty());
-        let list = buffer.begin_container(&LIST, FieldValue::Array(7..9), 0..0);
-        buffer.end_container(list);
-        assert_eq!(list, 0);
-        assert_eq!(buffer.fields()[0].value, FieldValue::Array(1..1));
     }
 }

@@ -1,5 +1,7 @@
 //! The program: what it prints and how it ends.
 
+mod source;
+
 use std::io::Write;
 use std::process::{Command, Output, Stdio};
 
@@ -71,7 +73,7 @@ fn mask_prints_each_case_in_turn() {
 
 #[test]
 fn names_prints_the_listing_of_names() {
-    assert_prints(&["names"], &[], &oracle::listing());
+    assert_prints(&["names"], &[], &source::listing());
 }
 
 #[test]

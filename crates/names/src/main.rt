@@ -13,6 +13,7 @@ fn print_line(registry: u64, t: u64, name: &[u8]) {
 
 // Prints the line of one type, or nothing where it has no name.
 fn show(registry: u64, t: u64) {
+    // Longer than every name.
     let mut text = [0u8; 64];
     let outcome = registry::name(registry, t, &mut text);
     let written = outcome.written;

@@ -15,7 +15,7 @@ masked b (x ∷ xs) = kept b x ∷ masked (b - 8) xs
 
 -- the contract of mask: every lent octet afterwards
 pub record Masks (bits : ℕ) (before after : List ℕ) : Type 0 where
-  pub octets : after ≡ masked bits before
+  pub left : after ≡ masked bits before
 
 -- bit k of the octets, counted from the first octet's most significant bit, from 0
 unfoldable pub bit : List ℕ → ℕ → ℕ

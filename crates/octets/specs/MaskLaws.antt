@@ -95,4 +95,4 @@ mask-more b xs now i left r inside so-far rest made =
 
 -- two results that meet the contract are equal
 pub masks-unique : {bits : ℕ} {before one other : List ℕ} → Masks bits before one → Masks bits before other → one ≡ other
-masks-unique a b = a .octets ∙ sym (b .octets)
+masks-unique a b = a .left ∙ sym (b .left)

@@ -1,10 +1,10 @@
--- What a call gives back and leaves, and the form of every call's contract.
+-- What a call gives back and leaves, and the form of the contract of a call that gives an outcome.
 use mathlib.Core.Path.{_≡_}
 use mathlib.Core.List.{List, [], _∷_}
 use Prim.Native.Nat.{ℕ}
 use Rattle.outcome.specs.declared.Outcome.{Outcome}
 
--- A refusal gives 0 covered and 0 written, and needed 0 except under 5.
+-- a refusal that tells its number alone: 0 covered, 0 written, 0 needed (under 5 needed is told too)
 abbrev pub refused : ℕ → Outcome
 refused answer = record { answer = answer; covered = 0; written = 0; needed = 0 }
 

@@ -1,4 +1,4 @@
--- Laws of the call `name`, one for each of its returns.
+-- Laws of the call `name`.
 use mathlib.Core.Path.{_≡_}
 use Prim.Native.Nat.{ℕ, _≤_, _<_}
 use mathlib.Core.List.{List, []}

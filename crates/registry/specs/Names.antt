@@ -137,10 +137,10 @@ find [] t = ""
 find (n ∷ ns) t = cond (eqb (n .0) t) (n .1) (find ns t)
 
 -- a text of ASCII as octets
-abbrev pub octets : String → List ℕ
-octets none = []
-octets (more c s) = code c ∷ octets s
+abbrev pub asOctets : String → List ℕ
+asOctets none = []
+asOctets (more c s) = code c ∷ asOctets s
 
 -- the octets of the name of a type in a registry
 unfoldable pub nameOf : Registry → ℕ → List ℕ
-nameOf registry t = octets (find (namesOf registry) t)
+nameOf registry t = asOctets (find (namesOf registry) t)

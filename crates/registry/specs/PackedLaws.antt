@@ -7,7 +7,7 @@ use native.Mathlib.Omega.{arith}
 use borrow.Author.Tests.{eq-eqb, ne-eqb}
 use lib.ListN.{length, getD, take, drop, length-append, length-drop}
 use lib.Seq.{getD-drop, drop-drop, take-append-seam, drop-append-seam}
-use Rattle.registry.specs.Names.{Name, find, octets}
+use Rattle.registry.specs.Names.{Name, find, asOctets}
 use Rattle.registry.specs.Packed.{packed}
 
 -- from `at` on stand the names that are left, and they give type t the name that all give
@@ -19,7 +19,7 @@ pub record Left (names : List ℕ) (all : List Name) (t at : ℕ) : Type 0 where
 -- the entry at `at`: it lies inside; where its type is t its text is the name; else the search goes on after it
 pub record Entry (names : List ℕ) (all : List Name) (t at : ℕ) : Type 0 where
   pub inside : at + 2 + getD names (at + 1) 0 ≤ length names
-  pub hit : getD names at 0 ≡ t → take (at + 2 + getD names (at + 1) 0 - (at + 2)) (drop (at + 2) names) ≡ octets (find all t)
+  pub hit : getD names at 0 ≡ t → take (at + 2 + getD names (at + 1) 0 - (at + 2)) (drop (at + 2) names) ≡ asOctets (find all t)
   pub miss : (getD names at 0 ≡ t → ⊥) → Left names all t (at + 2 + getD names (at + 1) 0)
 
 module _ (names : List ℕ) (all : List Name) (t at : ℕ) (before-end : at < length names) where
@@ -27,7 +27,7 @@ module _ (names : List ℕ) (all : List Name) (t at : ℕ) (before-end : at < le
   unfolding find
   entry-of [] here same = absurd (omega (arith, sym (length-drop at names) ∙ ap length here))
   entry-of (n ∷ ns) here same =
-      let text = octets (n .1) in
+      let text = asOctets (n .1) in
       let kind : getD names at 0 ≡ n .0 = (rw add-zero at (sym (getD-drop at names 0 0))) ∙ ap (λ (l : List ℕ). getD l 0 0) here in
       let size : getD names (at + 1) 0 ≡ length text = sym (getD-drop at names 1 0) ∙ ap (λ (l : List ℕ). getD l 1 0) here in
       let left : length names - at ≡ suc (suc (length text + length (packed ns))) = sym (length-drop at names) ∙ ap length here ∙ ap (λ (x : ℕ). suc (suc x)) (length-append text (packed ns)) in
@@ -37,7 +37,7 @@ module _ (names : List ℕ) (all : List Name) (t at : ℕ) (before-end : at < le
         hit = λ e.
             let first : find (n ∷ ns) t ≡ n .1 = simp (eq-eqb (n .0) t (sym kind ∙ e)) in
             let width : at + 2 + length text - (at + 2) ≡ length text = omega arith in
-            rw (size, after, width) (take-append-seam text (packed ns) ∙ ap octets (sym first ∙ same));
+            rw (size, after, width) (take-append-seam text (packed ns) ∙ ap asOctets (sym first ∙ same));
         miss = λ other.
             let later : find (n ∷ ns) t ≡ find ns t = simp (ne-eqb (n .0) t (λ e. other (kind ∙ e))) in
             record {
@@ -56,10 +56,10 @@ pub left-all : (names : List ℕ) (all : List Name) (t : ℕ) → names ≡ pack
 left-all names all t e = record { rest = all; here = e; same = refl }
 
 -- .. and where none are left, the type has no name
-pub left-none : (names : List ℕ) (all : List Name) (t at : ℕ) → length names ≤ at → Left names all t at → octets (find all t) ≡ []
+pub left-none : (names : List ℕ) (all : List Name) (t at : ℕ) → length names ≤ at → Left names all t at → asOctets (find all t) ≡ []
 unfolding find
 left-none names all t at past left = none-of (left .rest) (left .here) (left .same)
   where
-    none-of : (rest : List Name) → drop at names ≡ packed rest → find rest t ≡ find all t → octets (find all t) ≡ []
-    none-of [] here same = ap octets (sym same)
+    none-of : (rest : List Name) → drop at names ≡ packed rest → find rest t ≡ find all t → asOctets (find all t) ≡ []
+    none-of [] here same = ap asOctets (sym same)
     none-of (n ∷ ns) here same = absurd (omega (arith, sym (length-drop at names) ∙ ap length here))

@@ -6,7 +6,6 @@ use borrow.Author.Tests.{ne-eqb}
 use Rattle.registry.specs.Registry.{numberOf, registryOf}
 use Rattle.registry.specs.declared.Registry.{Registry}
 use Rattle.registry.specs.declared.Registry.the-variants.{Neighbor, Prefix, RouterCapability, Binding, Srv6Sid, Unregistered}
-use Rattle.registry.specs.declared.Found.{Found}
 use Rattle.registry.specs.declared.Found.the-variants.{Known, Unknown}
 
 -- a registry is the one of its number

@@ -52,7 +52,7 @@ returns c =
     let m = masked (a .bits) (a .prefix .now) in
     let all : c .before .loop .i ≡ length m = omega (arith, masked-length (a .bits) (a .prefix .now)) in
     let whole = inFront-whole (a .prefix .now) m (sym (masked-length (a .bits) (a .prefix .now))) in
-    record { octets = c .before .loop .inv .0 ∙ copied (a .prefix .now) m (c .before .loop .i) all ∙ whole }
+    record { left = c .before .loop .inv .0 ∙ copied (a .prefix .now) m (c .before .loop .i) all ∙ whole }
 
 pub mask-prefix-spec : {M : Type 1} → statement M
 mask-prefix-spec =
