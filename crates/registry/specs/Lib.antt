@@ -3,5 +3,6 @@ pub mod RegistryLaws
 pub mod Names
 pub mod NameCall
 pub mod NameCallLaws
+pub mod NameAnswers
 pub mod Packed
 pub mod PackedLaws

@@ -1,6 +1,6 @@
 -- The registries and their numbers: each number 0 to 5 is one registry's, and no other number is.
 use mathlib.Core.Path.{_≡_, refl}
-use Prim.Native.Nat.{ℕ, _≤_}
+use Prim.Native.Nat.{ℕ, zero, suc, _≤_, _<_}
 use native.Mathlib.Omega.{arith}
 use borrow.Author.Tests.{ne-eqb}
 use Rattle.registry.specs.Registry.{numberOf, registryOf}
@@ -30,3 +30,13 @@ registryOf-past n past =
       ne-eqb n 4 (λ e. omega arith),
       ne-eqb n 5 (λ e. omega arith),
     )
+
+-- below 6 there is one
+pub numbered : (n : ℕ) → n < 6 → (registry : Registry) × (numberOf registry ≡ n)
+numbered zero below = (Neighbor, refl)
+numbered (suc zero) below = (Prefix, refl)
+numbered (suc (suc zero)) below = (RouterCapability, refl)
+numbered (suc (suc (suc zero))) below = (Binding, refl)
+numbered (suc (suc (suc (suc zero)))) below = (Srv6Sid, refl)
+numbered (suc (suc (suc (suc (suc zero))))) below = (Unregistered, refl)
+numbered (suc (suc (suc (suc (suc (suc n)))))) below = absurd (omega arith)
