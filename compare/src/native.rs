@@ -40,6 +40,20 @@ pub fn name(registry: u64, t: u64, out: &mut [u8]) -> Outcome {
     outcome
 }
 
+/// Asks for the name of a type and lends nothing: a null pointer with a length of 0.
+pub fn name_into_nothing(registry: u64, t: u64) -> Outcome {
+    let mut outcome = Outcome::UNSET;
+    // SAFETY: the outcome is good for writes for the whole call, and no octet is lent.
+    unsafe { wakkemosut_name(registry, t, std::ptr::null_mut(), 0, &mut outcome) };
+    outcome
+}
+
+/// Masks nothing: a null pointer with a length of 0.
+pub fn mask_nothing(bits: usize) {
+    // SAFETY: no octet is lent.
+    unsafe { wakkemosut_mask(std::ptr::null_mut(), 0, bits) };
+}
+
 /// Clears the bits of the lent prefix after the first `bits`.
 pub fn mask(prefix: &mut [u8], bits: usize) {
     // SAFETY: the pointer is good for reads and writes for the whole call,

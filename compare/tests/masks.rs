@@ -83,3 +83,11 @@ fn the_masks_of_document_01_come_out() {
     assert_mask(&[0xFF, 0xFF], 13, &[0xFF, 0xF8]);
     assert_mask(&[0xFF, 0xFF], 16, &[0xFF, 0xFF]);
 }
+
+#[test]
+fn a_null_pointer_of_length_0_is_masked() {
+    for bits in (0..=MOST_BITS).chain(GREAT_BIT_COUNTS) {
+        // A call that touched the pointer would end the run.
+        native::mask_nothing(bits);
+    }
+}

@@ -106,3 +106,16 @@ fn there_are_as_many_names_as_in_the_source() {
     assert_eq!(in_oracle.count(), in_source);
     assert_eq!(in_library.count(), in_source);
 }
+
+#[test]
+fn a_null_pointer_of_length_0_lends_nothing() {
+    for (registry, t) in all_types() {
+        let expected = match oracle::name(registry, t) {
+            Some(_) => outcome(9, 0),
+            None => outcome(0, 0),
+        };
+        let given = native::name_into_nothing(registry.into(), t.into());
+        assert_eq!(given, expected, "registry {registry}, type {t}");
+    }
+    assert_eq!(native::name_into_nothing(6, 3), outcome(1, 0));
+}

@@ -11,12 +11,13 @@ use Rattle.registry.specs.Registry.{registryOf}
 use Rattle.registry.specs.declared.Found.{Found}
 use Rattle.registry.specs.declared.Found.the-variants.{Known, Unknown}
 
--- a name that fits is put in front of the lent octets, and written is its length; one that is longer is refused with 9
+-- done: the name in front of the lent octets, and written is its length
+abbrev pub done : List ℕ → List ℕ → After
+done name lent = record { outcome = record { answer = 0; covered = 0; written = length name; needed = 0 }; lent = inFront name lent }
+
+-- a name longer than the lent octets is refused with 9
 unfoldable pub named : List ℕ → List ℕ → After
-named name lent =
-    cond (leb (length name) (length lent))
-    (record { outcome = record { answer = 0; covered = 0; written = length name; needed = 0 }; lent = inFront name lent })
-    (refusal 9 lent)
+named name lent = cond (leb (length name) (length lent)) (done name lent) (refusal 9 lent)
 
 -- a registry not 0 to 5 is refused with 1
 unfoldable pub nameIn : Found → ℕ → List ℕ → After

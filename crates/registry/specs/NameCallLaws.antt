@@ -1,41 +1,49 @@
 -- Laws of the call `name`.
-use mathlib.Core.Path.{_≡_}
+use mathlib.Core.Path.{_≡_, refl}
 use Prim.Native.Nat.{ℕ, _≤_, _<_}
 use mathlib.Core.List.{List, []}
 use native.Mathlib.Decide.{decLe}
 use native.Mathlib.Omega.{arith}
 use borrow.Author.Tests.{le-leb, lt-leb}
-use lib.Dec.{leb·zero}
 use lib.ListN.{length}
-use Rattle.outcome.specs.Call.{Gives, refused}
+use Rattle.outcome.specs.Call.{Gives, refused, refusal}
 use Rattle.outcome.specs.declared.Outcome.{Outcome}
 use Rattle.octets.specs.Copy.{inFront}
 use Rattle.registry.specs.Names.{nameOf}
-use Rattle.registry.specs.NameCall.{named, nameIn}
+use Rattle.registry.specs.NameCall.{done, named, nameIn}
 use Rattle.registry.specs.declared.Registry.{Registry}
 use Rattle.registry.specs.declared.Found.{Found}
 use Rattle.registry.specs.declared.Found.the-variants.{Known, Unknown}
 
 -- named
 
--- a name that does not fit is refused
-pub named-long : {name found : List ℕ} (lent : List ℕ) {r : Outcome} → found ≡ name → length lent < length found → r ≡ refused 9 → Gives (named name lent) r lent
+-- a name that is longer than what was lent
+pub named-longer : (name lent : List ℕ) → length lent < length name → named name lent ≡ refusal 9 lent
 unfolding named
-named-long {name} {found} lent is long gave =
-    let longer : length lent < length name = rw is at long in
-    record { gave = rw (lt-leb (length name) (length lent) longer) gave; left = rw (lt-leb (length name) (length lent) longer) }
+named-longer name lent longer = rw (lt-leb (length name) (length lent) longer)
 
--- one that fits is in front
-pub named-fits : {name found : List ℕ} (lent : List ℕ) {exit : List ℕ} → found ≡ name → length found ≤ length lent → exit ≡ inFront found lent → Gives (named name lent) (record { answer = 0; covered = 0; written = length found; needed = 0 }) exit
+-- a name that fits
+pub named-fits : (name lent : List ℕ) → length name ≤ length lent → named name lent ≡ done name lent
 unfolding named
-named-fits {name} {found} lent is short front =
-    let fits : length name ≤ length lent = rw is at short in
-    record { gave = rw (le-leb (length name) (length lent) fits, is); left = rw (le-leb (length name) (length lent) fits) (rw is at front) }
+named-fits name lent fits = rw (le-leb (length name) (length lent) fits)
 
 -- a type without a name gives length 0 and changes nothing
 pub named-none : (lent : List ℕ) → named [] lent ≡ record { outcome = record { answer = 0; covered = 0; written = 0; needed = 0 }; lent = lent }
-unfolding named inFront
-named-none lent = rw (leb·zero (length lent))
+unfolding inFront
+named-none lent = named-fits [] lent (omega arith)
+
+-- what is written lies in what was lent
+named-inside : (name lent : List ℕ) → Dec (length name ≤ length lent) → named name lent .outcome .written ≤ length lent
+named-inside name lent (yes fits) = rw (named-fits name lent fits) fits
+named-inside name lent (no longer) = rw (named-longer name lent (omega arith)) (omega arith)
+
+-- the returns of `write_name`, which found the name
+
+pub found-longer : {name found : List ℕ} (lent : List ℕ) {r : Outcome} → found ≡ name → length lent < length found → r ≡ refused 9 → Gives (named name lent) r lent
+found-longer {name} lent is longer gave = rw (named-longer name lent (rw is at longer)) (record { gave = gave; left = refl })
+
+pub found-fits : {name found : List ℕ} (lent : List ℕ) {exit : List ℕ} → found ≡ name → length found ≤ length lent → exit ≡ inFront found lent → Gives (named name lent) (done found lent .outcome) exit
+found-fits {name} lent is fits front = rw (named-fits name lent (rw is at fits)) (record { gave = rw is; left = rw is at front })
 
 -- nameIn
 
@@ -50,12 +58,6 @@ unfolding nameIn
 known-named t lent is gives = record { gave = rw is (gives .gave); left = rw is (gives .left) }
 
 -- what is written lies in what was lent
-
-named-inside : (name lent : List ℕ) → Dec (length name ≤ length lent) → named name lent .outcome .written ≤ length lent
-unfolding named
-named-inside name lent (yes fits) = rw (le-leb (length name) (length lent) fits) fits
-named-inside name lent (no long) = rw (lt-leb (length name) (length lent) (omega arith)) (omega arith)
-
 pub written-inside : (found : Found) (t : ℕ) (lent : List ℕ) → nameIn found t lent .outcome .written ≤ length lent
 unfolding nameIn
 written-inside Unknown t lent = omega arith
