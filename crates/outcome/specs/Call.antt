@@ -8,6 +8,10 @@ use Rattle.outcome.specs.declared.Outcome.{Outcome}
 abbrev pub refused : ℕ → Outcome
 refused answer = record { answer = answer; covered = 0; written = 0; needed = 0 }
 
+-- done, with nothing to count: clear, cut back and read give 0 in the last three
+abbrev pub done : Outcome
+done = record { answer = 0; covered = 0; written = 0; needed = 0 }
+
 -- what a call gives back, and every word or octet that was lent to it, afterwards
 pub record After : Type 0 where
   pub outcome : Outcome
@@ -16,6 +20,10 @@ pub record After : Type 0 where
 -- a refusal changes no lent word or octet
 abbrev pub refusal : ℕ → List ℕ → After
 refusal answer lent = record { outcome = refused answer; lent = lent }
+
+-- done, and what was lent, afterwards
+abbrev pub finished : List ℕ → After
+finished lent = record { outcome = done; lent = lent }
 
 -- the contract of a call: what it gave, and what was lent as it returns, are the definition's
 pub record Gives (meant : After) (outcome : Outcome) (exit : List ℕ) : Type 0 where

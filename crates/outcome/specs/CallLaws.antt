@@ -16,3 +16,7 @@ numbers-unique a b = (a .gave ∙ sym (b .gave), a .left ∙ sym (b .left))
 -- from the one contract to the other
 pub gives-numbers : {meant : After} {outcome : Outcome} {numbers exit : List ℕ} → numbers ≡ numbersOf outcome → Gives meant outcome exit → GivesNumbers meant numbers exit
 gives-numbers {meant} wrote a = record { gave = wrote ∙ ap numbersOf (a .gave); left = a .left }
+
+-- a contract follows from that of an equal definition
+pub gives-as : {meant same : After} {outcome : Outcome} {exit : List ℕ} → meant ≡ same → Gives same outcome exit → Gives meant outcome exit
+gives-as e a = rw e a

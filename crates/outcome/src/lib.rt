@@ -1,6 +1,6 @@
 // What a call gives back (document 01, 'Numbers a call gives back').
 ghost use mathlib.Core.Path.{_≡_};
-ghost use Rattle.outcome.specs.Call.{refused, numbersOf};
+ghost use Rattle.outcome.specs.Call.{done, refused, numbersOf};
 
 // The answer, the octets covered, the records (for a name: octets) written and the records needed.
 pub struct Outcome {
@@ -17,8 +17,32 @@ impl Outcome {
     // Registry not 0 to 5.
     pub const NO_SUCH_REGISTRY: u8 = 1;
 
+    // Tape under 4 words, or its header not in order.
+    pub const NO_TAPE: u8 = 4;
+
+    // Read at or past the count; mark past the count.
+    pub const PAST_COUNT: u8 = 6;
+
+    // A record kept by the cut has descendants past the mark.
+    pub const CUTS_CONTAINER: u8 = 7;
+
+    // The record read has an unknown label, shape or registry, or starts after its end.
+    pub const UNREADABLE: u8 = 8;
+
     // Name longer than the lent octets.
     pub const NAME_TOO_LONG: u8 = 9;
+
+    // Done, where there is nothing to count.
+    pub fn done() -> Outcome
+        ensures { λ r. ⌜ r ≡ done ⌝ }
+    {
+        Outcome {
+            answer: Outcome::DONE,
+            covered: 0,
+            written: 0,
+            needed: 0,
+        }
+    }
 
     // A refusal: its number, and 0 for the rest.
     pub fn refused(answer: u8) -> Outcome

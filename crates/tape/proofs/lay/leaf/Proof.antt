@@ -1,0 +1,23 @@
+-- The leaf's record is put.
+use Rattle.tape.specs.Laid.{laid-leaf}
+use borrow.Author.Needs.{needs}
+use Rattle.tape.proofs.lay.leaf.Statement.{statement}
+use Rattle.tape.proofs.lay.leaf.Tie as tie
+
+leaf-requires : tie.Need-leaf-requires
+leaf-requires c κs = search needs
+
+put-requires : tie.Need-put-requires
+put-requires c κs = search needs
+
+add-t9 : tie.Need-add-t9
+add-t9 c = search needs
+
+same-length : tie.Need-same-length
+same-length c = search needs
+
+returns : tie.Need-returns
+returns c = laid-leaf _ (rw (← c .before .before .before .leaf .ensures) (c .before .before .put .ensures))
+
+pub leaf-spec : {M : Type 1} → statement M
+leaf-spec = tie.close (tie.spec leaf-requires put-requires add-t9 same-length returns)

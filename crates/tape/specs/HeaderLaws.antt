@@ -1,0 +1,63 @@
+-- Laws of the header: what it means that it is in order, and what leaves it so.
+use mathlib.Core.Path.{_≡_, refl, _∙_}
+use mathlib.Core.Bool.{true, _&&_}
+use mathlib.Core.List.{List, [], _∷_}
+use Prim.Native.Nat.{ℕ, _+_, _*_, _≤_}
+use native.Mathlib.Omega.{arith}
+use borrow.Author.Tests.{leb-true, eqb-true, le-leb, eq-eqb}
+use lib.Dec.{leb, eqb}
+use lib.ListN.{length, getD, set, length-set}
+use lib.Seq.{getD-set-same, getD-set-other}
+use Rattle.tape.specs.Both.{both, and-true}
+use Rattle.tape.specs.Tape.{used, room, headed, withUsed, cleared}
+
+-- the header is in order
+pub record InOrder (t : List ℕ) : Type 0 where
+  pub long : 4 ≤ length t
+  pub offset : getD t 1 0 ≡ 4
+  pub width : getD t 2 0 ≡ 6
+  pub last : getD t 3 0 ≡ 0
+  pub fits : used t ≤ room t
+
+pub headed-in-order : (t : List ℕ) → headed t ≡ true → InOrder t
+unfolding headed
+headed-in-order t h =
+    let a = both (leb 4 (length t)) _ h in
+    let b = both (eqb (getD t 1 0) 4) _ (a .1) in
+    let c = both (eqb (getD t 2 0) 6) _ (b .1) in
+    let d = both (eqb (getD t 3 0) 0) _ (c .1) in
+    record {
+      long = leb-true _ _ (a .0);
+      offset = eqb-true _ _ (b .0);
+      width = eqb-true _ _ (c .0);
+      last = eqb-true _ _ (d .0);
+      fits = leb-true _ _ (d .1);
+    }
+
+pub in-order-headed : (t : List ℕ) → InOrder t → headed t ≡ true
+unfolding headed
+in-order-headed t x =
+    rw (le-leb 4 (length t) (x .long), eq-eqb (getD t 1 0) 4 (x .offset), eq-eqb (getD t 2 0) 6 (x .width), eq-eqb (getD t 3 0) 0 (x .last)) (le-leb _ _ (x .fits))
+
+-- the used records lie inside the tape
+pub used-inside : (t : List ℕ) → InOrder t → 4 + 6 * used t ≤ length t
+used-inside t x = omega (arith, x .long, x .fits)
+
+-- a header with another count
+pub with-used-in-order : (t : List ℕ) (n : ℕ) → InOrder t → 4 + 6 * n ≤ length t → InOrder (withUsed n t)
+with-used-in-order t n x inside =
+    record {
+      long = rw length-set (x .long);
+      offset = getD-set-other t 0 1 n 0 (omega arith) ∙ x .offset;
+      width = getD-set-other t 0 2 n 0 (omega arith) ∙ x .width;
+      last = getD-set-other t 0 3 n 0 (omega arith) ∙ x .last;
+      fits = rw (getD-set-same t 0 n 0 (omega (arith, x .long)), length-set) (omega arith);
+    }
+
+-- a cleared tape
+pub cleared-in-order : (t : List ℕ) → 4 ≤ length t → InOrder (cleared t)
+cleared-in-order [] long = absurd (omega arith)
+cleared-in-order (a ∷ []) long = absurd (omega arith)
+cleared-in-order (a ∷ b ∷ []) long = absurd (omega arith)
+cleared-in-order (a ∷ b ∷ c ∷ []) long = absurd (omega arith)
+cleared-in-order (a ∷ b ∷ c ∷ d ∷ rest) long = record { long = omega arith; offset = refl; width = refl; last = refl; fits = omega arith }

@@ -1,0 +1,15 @@
+pub mod Limits
+pub mod Record
+pub mod Both
+pub mod Tape
+pub mod TapeLaws
+pub mod HeaderLaws
+pub mod Load
+pub mod Forest
+pub mod ForestLaws
+pub mod Laid
+pub mod Laying
+pub mod Calls
+pub mod CallsLaws
+pub mod Nest
+pub mod NestLaws

@@ -1,0 +1,29 @@
+// A leaf and a container laid on the tape: what every function that writes records is made of.
+use crate::Mark;
+use crate::Place;
+use crate::words::put;
+ghost use mathlib.Core.Path.{_≡_};
+ghost use Prim.Native.Nat.{_+_, _<_, _^_};
+ghost use Rattle.tape.specs.Record.{containerRecord};
+ghost use Rattle.tape.specs.Tape.{putAt};
+ghost use Rattle.tape.specs.Forest.{leaf, none};
+ghost use Rattle.tape.specs.Laid.{Laid};
+
+// Lays a leaf at position `at`, and gives the position after it.
+pub fn leaf(tape: &mut [u64], at: Place, mark: Mark) -> Place
+    requires { ⌜ at .0 < 2 ^ 63 ⌝ }
+    ensures { λ r. ⌜ Laid (leaf mark none) (now (tape .entry)) (now (tape .exit)) (at .0) (r .0) ⌝ }
+{
+    let p = at.0;
+    put(tape, at, mark.leaf());
+    Place(p + 1)
+}
+
+// Lays a container at position `at`, whose children stand behind it, up to position `next`.
+pub fn container(tape: &mut [u64], at: Place, mark: Mark, next: Place)
+    requires { ⌜ at .0 < 2 ^ 63 ⌝ }
+    ensures { λ _. ⌜ now (tape .exit) ≡ putAt (now (tape .entry)) (at .0) (containerRecord mark (at .0 + 1) (next .0)) ⌝ }
+{
+    let p = at.0;
+    put(tape, at, mark.container(Place(p + 1), next));
+}

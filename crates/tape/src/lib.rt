@@ -1,0 +1,100 @@
+// The tape (document 01, 'The tape'): a lent slice of words, four of header and then records of six; and its calls.
+ghost use mathlib.Core.Path.{_≡_};
+ghost use Rattle.tape.specs.Record.{labelOf, shapeOf, registryOf, leafRecord, containerRecord, zeros};
+
+pub mod calls;
+pub mod header;
+pub mod label;
+pub mod lay;
+pub mod limits;
+pub mod nest;
+pub mod shape;
+pub mod words;
+
+// A packet offset: an octet's place, base added.
+pub struct Octet(pub usize);
+
+// A tape position: which record, the first at 0.
+pub struct Place(pub usize);
+
+// A record without its positions: what it is, its first octet and one past its last, its number.
+pub struct Mark {
+    pub label: u8,
+    pub shape: u8,
+    pub registry: u8,
+    pub start: Octet,
+    pub end: Octet,
+    pub number: u64,
+}
+
+// The six words of a record: `first` is its first child, `past` one past its last descendant.
+pub struct Record {
+    pub tag: u64,
+    pub start: Octet,
+    pub end: Octet,
+    pub number: u64,
+    pub first: Place,
+    pub past: Place,
+}
+
+impl Mark {
+    // Its record, as a leaf.
+    pub fn leaf(self) -> Record
+        ensures { λ r. ⌜ r ≡ leafRecord self ⌝ }
+    {
+        self.container(Place(0), Place(0))
+    }
+
+    // Its record, as a container of the records from `first` up to `past`.
+    pub fn container(self, first: Place, past: Place) -> Record
+        ensures { λ r. ⌜ r ≡ containerRecord self (first .0) (past .0) ⌝ }
+    {
+        let start = self.start;
+        let end = self.end;
+        Record {
+            tag: self.label as u64 + 256 * (self.shape as u64) + 65536 * (self.registry as u64),
+            start,
+            end,
+            number: self.number,
+            first,
+            past,
+        }
+    }
+}
+
+impl Record {
+    // Six zeros.
+    pub fn zeros() -> Record
+        ensures { λ r. ⌜ r ≡ zeros ⌝ }
+    {
+        Record {
+            tag: 0,
+            start: Octet(0),
+            end: Octet(0),
+            number: 0,
+            first: Place(0),
+            past: Place(0),
+        }
+    }
+
+    // Its label, out of word 0.
+    pub fn label(self) -> u64
+        ensures { λ r. ⌜ r ≡ labelOf self ⌝ }
+    {
+        self.tag % 256
+    }
+
+    // Its shape, out of word 0.
+    pub fn shape(self) -> u64
+        ensures { λ r. ⌜ r ≡ shapeOf self ⌝ }
+    {
+        self.tag / 256 % 256
+    }
+
+    // Its registry, out of word 0.
+    pub fn registry(self) -> u64
+        ensures { λ r. ⌜ r ≡ registryOf self ⌝ }
+    {
+        self.tag / 65536
+    }
+}
