@@ -2,9 +2,17 @@
 // outcome, its four numbers go to a place that the caller lends. What is lent is there, and no two of its parts overlap;
 // a length of 0 takes any pointer.
 use octets::mask::mask_prefix;
+use tape::Place;
+use tape::calls::clear;
+use tape::calls::cut_back;
+use tape::calls::read;
+use tape::nest::nest_test;
+ghost use mathlib.Core.Path.{_≡_};
 ghost use Rattle.octets.specs.Mask.{Masks};
 ghost use Rattle.outcome.specs.Call.{GivesNumbers};
 ghost use Rattle.registry.specs.NameCall.{nameCall};
+ghost use Rattle.tape.specs.Calls.{clearCall, cutBackCall, readCall, GivesRecord};
+ghost use Rattle.tape.specs.Nest.{nestTest, yesNo};
 
 // Clears the bits of `prefix` after the first `bits` bits.
 #[no_mangle]
@@ -21,4 +29,50 @@ pub extern "C" fn wakkemosut_name(registry: u64, t: u64, out: &mut [u8], numbers
 {
     let outcome = registry::name(registry, t, out);
     *numbers = outcome.numbers();
+}
+
+// Writes the header of a tape without records, and the outcome to `numbers`.
+#[no_mangle]
+pub extern "C" fn wakkemosut_clear(tape: &mut [u64], numbers: &mut [u64; 4])
+    ensures { λ _. ⌜ GivesNumbers (clearCall (now (tape .entry))) (now (numbers .exit)) (now (tape .exit)) ⌝ }
+{
+    let outcome = clear(tape);
+    *numbers = outcome.numbers();
+}
+
+// Lowers the count of used records to `mark`, and writes the outcome to `numbers`.
+#[no_mangle]
+pub extern "C" fn wakkemosut_cut_back(tape: &mut [u64], mark: u64, numbers: &mut [u64; 4])
+    ensures { λ _. ⌜ GivesNumbers (cutBackCall (now (tape .entry)) mark) (now (numbers .exit)) (now (tape .exit)) ⌝ }
+{
+    let outcome = cut_back(tape, Place(mark as usize));
+    *numbers = outcome.numbers();
+}
+
+// Writes the six words of the record at position `at` to `words`, and the outcome to `numbers`.
+#[no_mangle]
+pub extern "C" fn wakkemosut_read(
+    tape: &[u64],
+    at: u64,
+    words: &mut [u64; 6],
+    numbers: &mut [u64; 4],
+)
+    ensures { λ _. ⌜ GivesRecord (readCall (now (tape .entry)) at) (now (numbers .exit)) (now (words .exit)) ⌝ }
+{
+    let reading = read(tape, Place(at as usize));
+    let outcome = reading.outcome;
+    let record = reading.record;
+    *words = record.words();
+    *numbers = outcome.numbers();
+}
+
+// Whether the used records split into trees: 1 yes, 0 no.
+#[no_mangle]
+pub extern "C" fn wakkemosut_nest_test(tape: &[u64]) -> u8
+    ensures { λ r. ⌜ r ≡ yesNo (nestTest (now (tape .entry))) ⌝ }
+{
+    if nest_test(tape) {
+        return 1;
+    }
+    0
 }

@@ -20,3 +20,7 @@ gives-numbers {meant} wrote a = record { gave = wrote ∙ ap numbersOf (a .gave)
 -- a contract follows from that of an equal definition
 pub gives-as : {meant same : After} {outcome : Outcome} {exit : List ℕ} → meant ≡ same → Gives same outcome exit → Gives meant outcome exit
 gives-as e a = rw e a
+
+-- two results that equal one definition are equal
+pub is-unique : {A : Type 0} {meant one other : A} → one ≡ meant → other ≡ meant → one ≡ other
+is-unique a b = a ∙ sym b

@@ -1,12 +1,13 @@
 -- The calls clear, cut back and read (document 01, 'Numbers a call gives back'), each from what it was lent.
+use mathlib.Core.Path.{_≡_}
 use mathlib.Core.Bool.{Bool, true, _&&_, cond}
 use mathlib.Core.List.{List, [], _∷_}
-use Prim.Native.Nat.{ℕ, suc, _+_, _*_}
+use Prim.Native.Nat.{ℕ, suc, _*_}
 use lib.Dec.{leb, ltb}
 use lib.ListN.{length}
-use Rattle.outcome.specs.Call.{After, done, refused, refusal, finished}
+use Rattle.outcome.specs.Call.{After, done, refused, refusal, finished, numbersOf}
 use Rattle.tape.specs.Limits.{lastLabel, lastShape, lastRegistry}
-use Rattle.tape.specs.Record.{labelOf, shapeOf, zeros}
+use Rattle.tape.specs.Record.{labelOf, shapeOf, zeros, words}
 use Rattle.tape.specs.Tape.{used, headed, withUsed, cleared, recordAt, load}
 use Rattle.tape.specs.declared.Record.{Record}
 use Rattle.tape.specs.declared.calls.Reading.{Reading}
@@ -53,3 +54,8 @@ readCall t at =
     (noRecord 8))
     (noRecord 6))
     (noRecord 4)
+
+-- the contract of read over the C boundary, where numbers and record are written to places that are lent for them
+pub record GivesRecord (meant : Reading) (numbers words′ : List ℕ) : Type 0 where
+  pub gave : numbers ≡ numbersOf (meant .outcome)
+  pub shown : words′ ≡ words (meant .«record»)

@@ -1,17 +1,19 @@
 -- The calls clear, cut back and read, case by case: when each gives which answer, and only then. Of the cases of a call one holds, and they shut each other out.
 use mathlib.Core.Path.{_≡_, refl, sym, ap, _∙_}
-use mathlib.Core.Bool.{true, false, _&&_}
+use mathlib.Core.Bool.{true, false}
 use mathlib.Core.List.{List}
-use Prim.Native.Nat.{ℕ, suc, _≤_, _<_, _+_, _-_}
+use Prim.Native.Nat.{ℕ, zero, suc, _≤_, _<_, _+_, _-_}
+use native.Mathlib.Decide.{decLe}
 use native.Mathlib.Omega.{arith}
-use borrow.Author.Tests.{le-leb, lt-leb, lt-ltb, le-ltb}
+use borrow.Author.Tests.{le-leb, lt-leb, lt-ltb, le-ltb, leb-true}
 use lib.Dec.{leb}
 use lib.ListN.{length}
-use Rattle.outcome.specs.Call.{After, Gives, done, refusal, finished}
-use Rattle.outcome.specs.declared.Outcome.{Outcome}
+use Rattle.outcome.specs.Call.{done, refusal, finished, numbersOf}
+use Rattle.tape.specs.Both.{both}
+use Rattle.tape.specs.Record.{words}
 use Rattle.tape.specs.Tape.{used, headed, withUsed, cleared, recordAt, load}
 use Rattle.tape.specs.Load.{load-from}
-use Rattle.tape.specs.Calls.{clearCall, endBy, cutBackCall, readable, noRecord, readCall}
+use Rattle.tape.specs.Calls.{clearCall, endBy, cutBackCall, readable, noRecord, readCall, GivesRecord}
 use Rattle.tape.specs.declared.calls.Reading.{Reading}
 
 -- clear
@@ -52,6 +54,20 @@ module _ (t : List ℕ) (mark i : ℕ) where
   end-none past =
       let left : mark - i ≡ 0 = omega arith in
       rw left refl
+
+-- it is judged on every record kept
+pub end-by-each : (n : ℕ) (t : List ℕ) (mark at : ℕ) → endBy mark (load t at n) ≡ true → (i : ℕ) → at ≤ i → i < at + n → recordAt t i .past .0 ≤ mark
+unfolding endBy load
+end-by-each zero t mark at kept i from below = absurd (omega arith)
+end-by-each (suc n) t mark at kept i from below =
+    let x = both (leb (recordAt t at .past .0) mark) (endBy mark (load t (suc at) n)) kept in
+    go (decLe i at) (leb-true _ _ (x .0)) (λ later. end-by-each n t mark (suc at) (x .1) i later (omega arith))
+  where
+    go : Dec (i ≤ at) → recordAt t at .past .0 ≤ mark → (suc at ≤ i → recordAt t i .past .0 ≤ mark) → recordAt t i .past .0 ≤ mark
+    go (yes first) here behind =
+        let same : i ≡ at = omega arith in
+        rw same here
+    go (no later) here behind = behind (omega arith)
 
 module _ (t : List ℕ) (mark : ℕ) where
   -- 4: the header is not in order
@@ -97,6 +113,10 @@ module _ (t : List ℕ) (at : ℕ) where
   unfolding readCall
   read-0 good inside fine = rw (good, lt-ltb at (used t) inside, fine)
 
--- two readings that meet read's contract are equal
-pub read-unique : (t : List ℕ) (at : ℕ) {one other : Reading} → one ≡ readCall t at → other ≡ readCall t at → one ≡ other
-read-unique t at a b = a ∙ sym b
+-- two results over the C boundary that meet read's contract are equal
+pub record-unique : {meant : Reading} {one other words′ words″ : List ℕ} → GivesRecord meant one words′ → GivesRecord meant other words″ → (one ≡ other) × (words′ ≡ words″)
+record-unique a b = (a .gave ∙ sym (b .gave), a .shown ∙ sym (b .shown))
+
+-- from read's contract to the one over the C boundary
+pub gives-record : {meant reading : Reading} {numbers words′ : List ℕ} → numbers ≡ numbersOf (reading .outcome) → words′ ≡ words (reading .«record») → reading ≡ meant → GivesRecord meant numbers words′
+gives-record wrote wrote′ is = record { gave = wrote ∙ ap (λ (r : Reading). numbersOf (r .outcome)) is; shown = wrote′ ∙ ap (λ (r : Reading). words (r .«record»)) is }

@@ -1,14 +1,14 @@
 -- Laws of the header: what it means that it is in order, and what leaves it so.
 use mathlib.Core.Path.{_≡_, refl, _∙_}
-use mathlib.Core.Bool.{true, _&&_}
+use mathlib.Core.Bool.{true}
 use mathlib.Core.List.{List, [], _∷_}
 use Prim.Native.Nat.{ℕ, _+_, _*_, _≤_}
 use native.Mathlib.Omega.{arith}
 use borrow.Author.Tests.{leb-true, eqb-true, le-leb, eq-eqb}
 use lib.Dec.{leb, eqb}
-use lib.ListN.{length, getD, set, length-set}
+use lib.ListN.{length, getD, length-set}
 use lib.Seq.{getD-set-same, getD-set-other}
-use Rattle.tape.specs.Both.{both, and-true}
+use Rattle.tape.specs.Both.{both}
 use Rattle.tape.specs.Tape.{used, room, headed, withUsed, cleared}
 
 -- the header is in order
@@ -61,3 +61,11 @@ cleared-in-order (a ∷ []) long = absurd (omega arith)
 cleared-in-order (a ∷ b ∷ []) long = absurd (omega arith)
 cleared-in-order (a ∷ b ∷ c ∷ []) long = absurd (omega arith)
 cleared-in-order (a ∷ b ∷ c ∷ d ∷ rest) long = record { long = omega arith; offset = refl; width = refl; last = refl; fits = omega arith }
+
+-- and it has no records
+pub used-cleared : (t : List ℕ) → used (cleared t) ≡ 0
+used-cleared [] = refl
+used-cleared (a ∷ []) = refl
+used-cleared (a ∷ b ∷ []) = refl
+used-cleared (a ∷ b ∷ c ∷ []) = refl
+used-cleared (a ∷ b ∷ c ∷ d ∷ rest) = refl

@@ -1,5 +1,6 @@
 pub mod Limits
 pub mod Record
+pub mod RecordLaws
 pub mod Both
 pub mod Tape
 pub mod TapeLaws
@@ -13,3 +14,5 @@ pub mod Calls
 pub mod CallsLaws
 pub mod Nest
 pub mod NestLaws
+pub mod Split
+pub mod Nested

@@ -32,3 +32,8 @@ trees t d at end = treesIn (end - at) t d at end
 -- the used records split into trees, at most 4 containers deep; no under 4
 unfoldable pub nestTest : List ℕ → Bool
 nestTest t = headed t && trees t deepest 0 (used t)
+
+-- yes and no as numbers, as they cross the C boundary
+abbrev pub yesNo : Bool → ℕ
+yesNo true = 1
+yesNo false = 0

@@ -1,5 +1,5 @@
 -- A tape (document 01, 'The tape'): a header of four words, and then records of six.
-use mathlib.Core.Bool.{Bool, true, false, _&&_, cond}
+use mathlib.Core.Bool.{Bool, _&&_, cond}
 use mathlib.Core.List.{List, [], _∷_}
 use Prim.Native.Nat.{ℕ, zero, suc, _+_, _*_, _-_, _/_}
 use lib.Dec.{leb, eqb}

@@ -1,6 +1,6 @@
 // The tape (document 01, 'The tape'): a lent slice of words, four of header and then records of six; and its calls.
 ghost use mathlib.Core.Path.{_≡_};
-ghost use Rattle.tape.specs.Record.{labelOf, shapeOf, registryOf, leafRecord, containerRecord, zeros};
+ghost use Rattle.tape.specs.Record.{labelOf, shapeOf, registryOf, leafRecord, containerRecord, zeros, words};
 
 pub mod calls;
 pub mod header;
@@ -75,6 +75,20 @@ impl Record {
             first: Place(0),
             past: Place(0),
         }
+    }
+
+    // Its six words, in order.
+    pub fn words(self) -> [u64; 6]
+        ensures { λ r. ⌜ r ≡ words self ⌝ }
+    {
+        [
+            self.tag,
+            self.start.0 as u64,
+            self.end.0 as u64,
+            self.number,
+            self.first.0 as u64,
+            self.past.0 as u64,
+        ]
     }
 
     // Its label, out of word 0.

@@ -3,7 +3,7 @@ use mathlib.Core.Path.{refl, sym, _∙_}
 use native.Mathlib.Omega.{arith}
 use borrow.Author.Tests.{not-true, not-false}
 use Rattle.outcome.specs.CallLaws.{gives-as}
-use Rattle.tape.specs.HeaderLaws.{InOrder, headed-in-order, used-inside}
+use Rattle.tape.specs.HeaderLaws.{headed-in-order, used-inside}
 use Rattle.tape.specs.CallsLaws.{cut-4, cut-6, cut-7, cut-0}
 use borrow.Author.Needs.{needs}
 use Rattle.tape.proofs.calls.cut_back.Statement.{statement}

@@ -2,7 +2,7 @@
 use mathlib.Core.Path.{sym, _∙_}
 use native.Mathlib.Omega.{arith}
 use borrow.Author.Tests.{not-true, not-false}
-use Rattle.tape.specs.HeaderLaws.{InOrder, headed-in-order, used-inside}
+use Rattle.tape.specs.HeaderLaws.{headed-in-order, used-inside}
 use Rattle.tape.specs.CallsLaws.{read-4, read-6, read-8, read-0}
 use borrow.Author.Needs.{needs}
 use Rattle.tape.proofs.calls.read.Statement.{statement}

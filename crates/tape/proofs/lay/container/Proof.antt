@@ -1,5 +1,4 @@
 -- The container's record is put.
-use mathlib.Core.Path.{_≡_}
 use borrow.Author.Needs.{needs}
 use Rattle.tape.proofs.lay.container.Statement.{statement}
 use Rattle.tape.proofs.lay.container.Tie as tie

@@ -1,5 +1,5 @@
 -- An array, or an object, or neither.
-use mathlib.Core.Path.{refl, _∙_}
+use mathlib.Core.Path.{refl}
 use borrow.Author.Tests.{eq-eqb, ne-eqb}
 use borrow.Author.Needs.{needs}
 use Rattle.tape.proofs.nest.holds_others.Statement.{statement}

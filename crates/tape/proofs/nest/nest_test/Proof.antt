@@ -2,7 +2,7 @@
 use mathlib.Core.Path.{refl, sym, _∙_}
 use native.Mathlib.Omega.{arith}
 use borrow.Author.Tests.{not-true, not-false}
-use Rattle.tape.specs.HeaderLaws.{InOrder, headed-in-order, used-inside}
+use Rattle.tape.specs.HeaderLaws.{headed-in-order, used-inside}
 use Rattle.tape.specs.Nest.{nestTest}
 use borrow.Author.Needs.{needs}
 use Rattle.tape.proofs.nest.nest_test.Statement.{statement}
