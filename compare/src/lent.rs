@@ -1,35 +1,35 @@
-//! Octets to be lent, with others around them that must stay.
+//! Octets or words to be lent, with others around them that must stay.
 
-/// The number of octets on either side of the lent ones.
+/// The number of items on either side of the lent ones.
 const MARGIN: usize = 32;
 
-/// Lent octets in the middle of a larger buffer.
+/// Lent items in the middle of a larger buffer.
 #[derive(Clone, Debug, PartialEq, Eq)]
-pub struct Lent {
-    octets: Vec<u8>,
+pub struct Lent<Item> {
+    items: Vec<Item>,
 }
 
-impl Lent {
-    /// Octets that count up from `start`, `length` of them to be lent.
+impl<Item: Copy + From<u8>> Lent<Item> {
+    /// Items that count up from `start` and over at 256, `length` of them to be lent.
     pub fn counting(start: u8, length: usize) -> Self {
         let count = MARGIN + length + MARGIN;
-        let octets = (0..count).map(|place| start.wrapping_add(place as u8));
+        let items = (0..count).map(|place| Item::from(start.wrapping_add(place as u8)));
         Self {
-            octets: octets.collect(),
+            items: items.collect(),
         }
     }
 
-    /// These octets, to be lent, between others.
-    pub fn around(content: &[u8]) -> Self {
+    /// These items, to be lent, between others.
+    pub fn around(content: &[Item]) -> Self {
         let mut lent = Self::counting(0x81, content.len());
         lent.middle().copy_from_slice(content);
         lent
     }
 
-    /// The octets to be lent.
-    pub fn middle(&mut self) -> &mut [u8] {
-        let end = self.octets.len() - MARGIN;
-        &mut self.octets[MARGIN..end]
+    /// The items to be lent.
+    pub fn middle(&mut self) -> &mut [Item] {
+        let end = self.items.len() - MARGIN;
+        &mut self.items[MARGIN..end]
     }
 }
 
@@ -40,21 +40,23 @@ mod tests {
     #[test]
     fn the_middle_is_as_long_as_asked_for() {
         for length in 0..300 {
-            assert_eq!(Lent::counting(7, length).middle().len(), length);
+            assert_eq!(Lent::<u8>::counting(7, length).middle().len(), length);
+            assert_eq!(Lent::<u64>::counting(7, length).middle().len(), length);
         }
     }
 
     #[test]
     fn the_middle_holds_the_content() {
-        assert_eq!(Lent::around(&[1, 2, 3]).middle(), [1, 2, 3]);
+        assert_eq!(Lent::<u8>::around(&[1, 2, 3]).middle(), [1, 2, 3]);
+        assert_eq!(Lent::around(&[1, u64::MAX]).middle(), [1, u64::MAX]);
     }
 
     #[test]
     fn a_change_beside_the_middle_is_seen() {
-        let before = Lent::around(&[1, 2, 3]);
+        let before = Lent::<u64>::around(&[1, 2, 3]);
         for place in [MARGIN - 1, MARGIN + 3] {
             let mut after = before.clone();
-            after.octets[place] ^= 1;
+            after.items[place] ^= 1;
             assert_ne!(before, after);
         }
     }

@@ -1,8 +1,11 @@
-//! What the comparison of the proved library with the oracle needs.
+//! What the comparison of the proved library with the oracle and the model needs.
 
 #![deny(unsafe_code)]
 
+pub mod agree;
 pub mod lent;
+pub mod model;
 #[allow(unsafe_code)]
 pub mod native;
 pub mod random;
+pub mod tapes;

@@ -24,11 +24,31 @@ impl Outcome {
     };
 }
 
+/// The words of a record.
+pub type Record = [u64; 6];
+
+/// A record that no call gives.
+const UNSET_RECORD: Record = [u64::MAX; 6];
+
 unsafe extern "C" {
     /// The library's name call.
     fn wakkemosut_name(registry: u64, t: u64, out: *mut u8, length: usize, outcome: *mut Outcome);
     /// The library's mask call.
     fn wakkemosut_mask(prefix: *mut u8, length: usize, bits: usize);
+    /// The library's clear call.
+    fn wakkemosut_clear(tape: *mut u64, length: usize, outcome: *mut Outcome);
+    /// The library's cut back call.
+    fn wakkemosut_cut_back(tape: *mut u64, length: usize, mark: u64, outcome: *mut Outcome);
+    /// The library's read call.
+    fn wakkemosut_read(
+        tape: *const u64,
+        length: usize,
+        at: u64,
+        record: *mut Record,
+        outcome: *mut Outcome,
+    );
+    /// The library's nest test: 1 for yes, 0 for no.
+    fn wakkemosut_nest_test(tape: *const u64, length: usize) -> u8;
 }
 
 /// Writes the name of a type to the front of the lent octets.
@@ -59,4 +79,80 @@ pub fn mask(prefix: &mut [u8], bits: usize) {
     // SAFETY: the pointer is good for reads and writes for the whole call,
     // and the length is that of the lent prefix.
     unsafe { wakkemosut_mask(prefix.as_mut_ptr(), prefix.len(), bits) };
+}
+
+/// Writes the header of an empty tape.
+pub fn clear(tape: &mut [u64]) -> Outcome {
+    let mut outcome = Outcome::UNSET;
+    // SAFETY: both pointers are good for reads and writes for the whole call,
+    // and the length is that of the lent tape.
+    unsafe { wakkemosut_clear(tape.as_mut_ptr(), tape.len(), &mut outcome) };
+    outcome
+}
+
+/// Clears nothing: a null pointer with a length of 0.
+pub fn clear_nothing() -> Outcome {
+    let mut outcome = Outcome::UNSET;
+    // SAFETY: the outcome is good for writes for the whole call, and no word is lent.
+    unsafe { wakkemosut_clear(std::ptr::null_mut(), 0, &mut outcome) };
+    outcome
+}
+
+/// Lowers the count of records to a mark.
+pub fn cut_back(tape: &mut [u64], mark: u64) -> Outcome {
+    let mut outcome = Outcome::UNSET;
+    // SAFETY: both pointers are good for reads and writes for the whole call,
+    // and the length is that of the lent tape.
+    unsafe { wakkemosut_cut_back(tape.as_mut_ptr(), tape.len(), mark, &mut outcome) };
+    outcome
+}
+
+/// Cuts nothing back: a null pointer with a length of 0.
+pub fn cut_back_nothing(mark: u64) -> Outcome {
+    let mut outcome = Outcome::UNSET;
+    // SAFETY: the outcome is good for writes for the whole call, and no word is lent.
+    unsafe { wakkemosut_cut_back(std::ptr::null_mut(), 0, mark, &mut outcome) };
+    outcome
+}
+
+/// Reads the record at a position.
+pub fn read(tape: &[u64], at: u64) -> (Record, Outcome) {
+    let mut record = UNSET_RECORD;
+    let mut outcome = Outcome::UNSET;
+    // SAFETY: the tape is good for reads, the record and the outcome are good
+    // for writes for the whole call, and the length is that of the lent tape.
+    unsafe { wakkemosut_read(tape.as_ptr(), tape.len(), at, &mut record, &mut outcome) };
+    (record, outcome)
+}
+
+/// Reads a record of nothing: a null pointer with a length of 0.
+pub fn read_nothing(at: u64) -> (Record, Outcome) {
+    let mut record = UNSET_RECORD;
+    let mut outcome = Outcome::UNSET;
+    // SAFETY: the record and the outcome are good for writes for the whole
+    // call, and no word is lent.
+    unsafe { wakkemosut_read(std::ptr::null(), 0, at, &mut record, &mut outcome) };
+    (record, outcome)
+}
+
+/// Whether the used records split into trees.
+pub fn nest_test(tape: &[u64]) -> bool {
+    // SAFETY: the pointer is good for reads for the whole call, and the
+    // length is that of the lent tape.
+    yes_or_no(unsafe { wakkemosut_nest_test(tape.as_ptr(), tape.len()) })
+}
+
+/// Tests the nest of nothing: a null pointer with a length of 0.
+pub fn nest_test_nothing() -> bool {
+    // SAFETY: no word is lent.
+    yes_or_no(unsafe { wakkemosut_nest_test(std::ptr::null(), 0) })
+}
+
+/// What the nest test's octet says.
+fn yes_or_no(octet: u8) -> bool {
+    match octet {
+        0 => false,
+        1 => true,
+        _ => panic!("the nest test gives {octet}, neither 0 nor 1"),
+    }
 }
