@@ -24,6 +24,34 @@ impl Outcome {
     };
 }
 
+/// Words beside a lent place.
+const GUARD: [u64; 4] = [0x5A5A_A5A5_0123_4567; 4];
+
+/// A place that is lent for a result, between words that must stay.
+#[repr(C)]
+struct Guarded<Place> {
+    before: [u64; 4],
+    place: Place,
+    after: [u64; 4],
+}
+
+impl<Place> Guarded<Place> {
+    /// A place that holds this.
+    fn holding(place: Place) -> Self {
+        Self {
+            before: GUARD,
+            place,
+            after: GUARD,
+        }
+    }
+
+    /// What the place holds, where the words beside it stayed.
+    fn opened(self) -> Place {
+        assert_eq!((self.before, self.after), (GUARD, GUARD), "beside a place");
+        self.place
+    }
+}
+
 /// The words of a record.
 pub type Record = [u64; 6];
 
@@ -53,19 +81,19 @@ unsafe extern "C" {
 
 /// Writes the name of a type to the front of the lent octets.
 pub fn name(registry: u64, t: u64, out: &mut [u8]) -> Outcome {
-    let mut outcome = Outcome::UNSET;
+    let mut outcome = Guarded::holding(Outcome::UNSET);
     // SAFETY: both pointers are good for writes for the whole call, and the
     // length is that of the lent octets.
-    unsafe { wakkemosut_name(registry, t, out.as_mut_ptr(), out.len(), &mut outcome) };
-    outcome
+    unsafe { wakkemosut_name(registry, t, out.as_mut_ptr(), out.len(), &mut outcome.place) };
+    outcome.opened()
 }
 
 /// Asks for the name of a type and lends nothing: a null pointer with a length of 0.
 pub fn name_into_nothing(registry: u64, t: u64) -> Outcome {
-    let mut outcome = Outcome::UNSET;
+    let mut outcome = Guarded::holding(Outcome::UNSET);
     // SAFETY: the outcome is good for writes for the whole call, and no octet is lent.
-    unsafe { wakkemosut_name(registry, t, std::ptr::null_mut(), 0, &mut outcome) };
-    outcome
+    unsafe { wakkemosut_name(registry, t, std::ptr::null_mut(), 0, &mut outcome.place) };
+    outcome.opened()
 }
 
 /// Masks nothing: a null pointer with a length of 0.
@@ -83,56 +111,72 @@ pub fn mask(prefix: &mut [u8], bits: usize) {
 
 /// Writes the header of an empty tape.
 pub fn clear(tape: &mut [u64]) -> Outcome {
-    let mut outcome = Outcome::UNSET;
+    let mut outcome = Guarded::holding(Outcome::UNSET);
     // SAFETY: both pointers are good for reads and writes for the whole call,
     // and the length is that of the lent tape.
-    unsafe { wakkemosut_clear(tape.as_mut_ptr(), tape.len(), &mut outcome) };
-    outcome
+    unsafe { wakkemosut_clear(tape.as_mut_ptr(), tape.len(), &mut outcome.place) };
+    outcome.opened()
 }
 
 /// Clears nothing: a null pointer with a length of 0.
 pub fn clear_nothing() -> Outcome {
-    let mut outcome = Outcome::UNSET;
+    let mut outcome = Guarded::holding(Outcome::UNSET);
     // SAFETY: the outcome is good for writes for the whole call, and no word is lent.
-    unsafe { wakkemosut_clear(std::ptr::null_mut(), 0, &mut outcome) };
-    outcome
+    unsafe { wakkemosut_clear(std::ptr::null_mut(), 0, &mut outcome.place) };
+    outcome.opened()
 }
 
 /// Lowers the count of records to a mark.
 pub fn cut_back(tape: &mut [u64], mark: u64) -> Outcome {
-    let mut outcome = Outcome::UNSET;
+    let mut outcome = Guarded::holding(Outcome::UNSET);
     // SAFETY: both pointers are good for reads and writes for the whole call,
     // and the length is that of the lent tape.
-    unsafe { wakkemosut_cut_back(tape.as_mut_ptr(), tape.len(), mark, &mut outcome) };
-    outcome
+    unsafe { wakkemosut_cut_back(tape.as_mut_ptr(), tape.len(), mark, &mut outcome.place) };
+    outcome.opened()
 }
 
 /// Cuts nothing back: a null pointer with a length of 0.
 pub fn cut_back_nothing(mark: u64) -> Outcome {
-    let mut outcome = Outcome::UNSET;
+    let mut outcome = Guarded::holding(Outcome::UNSET);
     // SAFETY: the outcome is good for writes for the whole call, and no word is lent.
-    unsafe { wakkemosut_cut_back(std::ptr::null_mut(), 0, mark, &mut outcome) };
-    outcome
+    unsafe { wakkemosut_cut_back(std::ptr::null_mut(), 0, mark, &mut outcome.place) };
+    outcome.opened()
 }
 
 /// Reads the record at a position.
 pub fn read(tape: &[u64], at: u64) -> (Record, Outcome) {
-    let mut record = UNSET_RECORD;
-    let mut outcome = Outcome::UNSET;
+    let mut record = Guarded::holding(UNSET_RECORD);
+    let mut outcome = Guarded::holding(Outcome::UNSET);
     // SAFETY: the tape is good for reads, the record and the outcome are good
     // for writes for the whole call, and the length is that of the lent tape.
-    unsafe { wakkemosut_read(tape.as_ptr(), tape.len(), at, &mut record, &mut outcome) };
-    (record, outcome)
+    unsafe {
+        wakkemosut_read(
+            tape.as_ptr(),
+            tape.len(),
+            at,
+            &mut record.place,
+            &mut outcome.place,
+        )
+    };
+    (record.opened(), outcome.opened())
 }
 
 /// Reads a record of nothing: a null pointer with a length of 0.
 pub fn read_nothing(at: u64) -> (Record, Outcome) {
-    let mut record = UNSET_RECORD;
-    let mut outcome = Outcome::UNSET;
+    let mut record = Guarded::holding(UNSET_RECORD);
+    let mut outcome = Guarded::holding(Outcome::UNSET);
     // SAFETY: the record and the outcome are good for writes for the whole
     // call, and no word is lent.
-    unsafe { wakkemosut_read(std::ptr::null(), 0, at, &mut record, &mut outcome) };
-    (record, outcome)
+    unsafe {
+        wakkemosut_read(
+            std::ptr::null(),
+            0,
+            at,
+            &mut record.place,
+            &mut outcome.place,
+        )
+    };
+    (record.opened(), outcome.opened())
 }
 
 /// Whether the used records split into trees.
@@ -154,5 +198,31 @@ fn yes_or_no(octet: u8) -> bool {
         0 => false,
         1 => true,
         _ => panic!("the nest test gives {octet}, neither 0 nor 1"),
+    }
+}
+
+#[cfg(test)]
+mod tests {
+    use super::*;
+
+    #[test]
+    fn a_place_gives_what_it_holds() {
+        assert_eq!(Guarded::holding(7).opened(), 7);
+    }
+
+    #[test]
+    #[should_panic(expected = "beside a place")]
+    fn a_word_that_changed_before_a_place_is_seen() {
+        let mut guarded = Guarded::holding(7);
+        guarded.before[3] += 1;
+        guarded.opened();
+    }
+
+    #[test]
+    #[should_panic(expected = "beside a place")]
+    fn a_word_that_changed_after_a_place_is_seen() {
+        let mut guarded = Guarded::holding(7);
+        guarded.after[0] += 1;
+        guarded.opened();
     }
 }

@@ -59,6 +59,10 @@ fn counts(room: u64) -> Vec<u64> {
 fn assert_part(tape: &[u64], length: usize) {
     let part = &tape[..length];
     assert_eq!(native::nest_test(part), model::nest_test(part), "{part:?}");
+    let mut left = tape.to_vec();
+    let (given, expected) = (native::clear(&mut left[..length]), model::clear(part));
+    assert_eq!(given, expected.outcome, "{part:?}");
+    assert_eq!(left, [&expected.tape, &tape[length..]].concat(), "{part:?}");
     for argument in 0..=MOST_ROOM {
         let call = format!("{argument} of {part:?}");
         let (given, expected) = (native::read(part, argument), model::read(part, argument));

@@ -2,7 +2,7 @@
 // outcome, its four numbers go to a place that the caller lends. What is lent is there, and no two of its parts overlap;
 // a length of 0 takes any pointer.
 use octets::mask::mask_prefix;
-use tape::Place;
+use tape::Position;
 use tape::calls::clear;
 use tape::calls::cut_back;
 use tape::calls::read;
@@ -45,7 +45,7 @@ pub extern "C" fn wakkemosut_clear(tape: &mut [u64], numbers: &mut [u64; 4])
 pub extern "C" fn wakkemosut_cut_back(tape: &mut [u64], mark: u64, numbers: &mut [u64; 4])
     ensures { λ _. ⌜ GivesNumbers (cutBackCall (now (tape .entry)) mark) (now (numbers .exit)) (now (tape .exit)) ⌝ }
 {
-    let outcome = cut_back(tape, Place(mark as usize));
+    let outcome = cut_back(tape, Position(mark as usize));
     *numbers = outcome.numbers();
 }
 
@@ -59,7 +59,7 @@ pub extern "C" fn wakkemosut_read(
 )
     ensures { λ _. ⌜ GivesRecord (readCall (now (tape .entry)) at) (now (numbers .exit)) (now (words .exit)) ⌝ }
 {
-    let reading = read(tape, Place(at as usize));
+    let reading = read(tape, Position(at as usize));
     let outcome = reading.outcome;
     let record = reading.record;
     *words = record.words();

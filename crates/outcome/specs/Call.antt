@@ -4,13 +4,17 @@ use mathlib.Core.List.{List, [], _∷_}
 use Prim.Native.Nat.{ℕ}
 use Rattle.outcome.specs.declared.Outcome.{Outcome}
 
--- a refusal that tells its number alone: 0 covered, 0 written, 0 needed (under 5 needed is told too)
-abbrev pub refused : ℕ → Outcome
-refused answer = record { answer = answer; covered = 0; written = 0; needed = 0 }
+-- an answer alone: 0 covered, 0 written, 0 needed
+abbrev pub bare : ℕ → Outcome
+bare answer = record { answer = answer; covered = 0; written = 0; needed = 0 }
 
 -- done, with nothing to count: clear, cut back and read give 0 in the last three
 abbrev pub done : Outcome
-done = record { answer = 0; covered = 0; written = 0; needed = 0 }
+done = bare 0
+
+-- a refusal that tells its number alone (under 5 needed is told too)
+abbrev pub refused : ℕ → Outcome
+refused answer = bare answer
 
 -- what a call gives back, and every word or octet that was lent to it, afterwards
 pub record After : Type 0 where

@@ -1,6 +1,6 @@
 // What a call gives back (document 01, 'Numbers a call gives back').
 ghost use mathlib.Core.Path.{_≡_};
-ghost use Rattle.outcome.specs.Call.{done, refused, numbersOf};
+ghost use Rattle.outcome.specs.Call.{bare, done, refused, numbersOf};
 
 // The answer, the octets covered, the records (for a name: octets) written and the records needed.
 pub struct Outcome {
@@ -32,21 +32,9 @@ impl Outcome {
     // Name longer than the lent octets.
     pub const NAME_TOO_LONG: u8 = 9;
 
-    // Done, where there is nothing to count.
-    pub fn done() -> Outcome
-        ensures { λ r. ⌜ r ≡ done ⌝ }
-    {
-        Outcome {
-            answer: Outcome::DONE,
-            covered: 0,
-            written: 0,
-            needed: 0,
-        }
-    }
-
-    // A refusal: its number, and 0 for the rest.
-    pub fn refused(answer: u8) -> Outcome
-        ensures { λ r. ⌜ r ≡ refused answer ⌝ }
+    // An answer alone: 0 for the rest.
+    fn bare(answer: u8) -> Outcome
+        ensures { λ r. ⌜ r ≡ bare answer ⌝ }
     {
         Outcome {
             answer,
@@ -54,6 +42,20 @@ impl Outcome {
             written: 0,
             needed: 0,
         }
+    }
+
+    // Done, where there is nothing to count.
+    pub fn done() -> Outcome
+        ensures { λ r. ⌜ r ≡ done ⌝ }
+    {
+        Outcome::bare(Outcome::DONE)
+    }
+
+    // A refusal that tells its number alone.
+    pub fn refused(answer: u8) -> Outcome
+        ensures { λ r. ⌜ r ≡ refused answer ⌝ }
+    {
+        Outcome::bare(answer)
     }
 
     // Its four numbers, in document 01's order.

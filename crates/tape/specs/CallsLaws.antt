@@ -1,19 +1,22 @@
--- The calls clear, cut back and read, case by case: when each gives which answer, and only then. Of the cases of a call one holds, and they shut each other out.
+-- The calls clear, cut back and read, case by case: what each gives where which test holds.
 use mathlib.Core.Path.{_≡_, refl, sym, ap, _∙_}
-use mathlib.Core.Bool.{true, false}
-use mathlib.Core.List.{List}
-use Prim.Native.Nat.{ℕ, zero, suc, _≤_, _<_, _+_, _-_}
+use mathlib.Core.Bool.{Bool, true, false, _&&_}
+use mathlib.Core.List.{List, [], _∷_, _++_}
+use Prim.Native.Nat.{ℕ, zero, suc, _≤_, _<_, _+_, _*_, _-_}
+use native.Mathlib.Nat.{zero-add}
 use native.Mathlib.Decide.{decLe}
 use native.Mathlib.Omega.{arith}
 use borrow.Author.Tests.{le-leb, lt-leb, lt-ltb, le-ltb, leb-true}
 use lib.Dec.{leb}
 use lib.ListN.{length}
 use Rattle.outcome.specs.Call.{done, refusal, finished, numbersOf}
-use Rattle.tape.specs.Both.{both}
+use Rattle.tape.specs.Limits.{lastRegistry}
+use Rattle.tape.specs.Both.{both, and-true, and-assoc, and-yes, and-no}
 use Rattle.tape.specs.Record.{words}
 use Rattle.tape.specs.Tape.{used, headed, withUsed, cleared, recordAt, load}
-use Rattle.tape.specs.Load.{load-from}
+use Rattle.tape.specs.LoadLaws.{load-append}
 use Rattle.tape.specs.Calls.{clearCall, endBy, cutBackCall, readable, noRecord, readCall, GivesRecord}
+use Rattle.tape.specs.declared.Record.{Record}
 use Rattle.tape.specs.declared.calls.Reading.{Reading}
 
 -- clear
@@ -31,29 +34,35 @@ module _ (t : List ℕ) where
 
 -- cut back
 
--- the turns of its loop over the records before the mark
+-- records one after the other
+end-by-++ : (mark : ℕ) (xs ys : List Record) → endBy mark (xs ++ ys) ≡ (endBy mark xs && endBy mark ys)
+unfolding endBy
+end-by-++ mark [] ys = refl
+end-by-++ mark (x ∷ xs) ys = ap (λ (b : Bool). leb (x .past .0) mark && b) (end-by-++ mark xs ys) ∙ sym (and-assoc (leb (x .past .0) mark) (endBy mark xs) (endBy mark ys))
 
--- all are left
-pub end-all : (t : List ℕ) (mark : ℕ) → endBy mark (load t 0 (mark - 0)) ≡ endBy mark (load t 0 mark)
-end-all t mark = ap (λ (n : ℕ). endBy mark (load t 0 n)) (omega arith)
-
-module _ (t : List ℕ) (mark i : ℕ) where
-  -- one record more, whose descendants end by the mark
-  pub end-next : i < mark → recordAt t i .past .0 ≤ mark → endBy mark (load t (i + 1) (mark - (i + 1))) ≡ endBy mark (load t i (mark - i))
-  unfolding endBy
-  end-next below ends = rw (load-from t i mark below, le-leb _ _ ends) refl
-
-  -- one whose descendants do not
-  pub end-over : i < mark → mark < recordAt t i .past .0 → false ≡ endBy mark (load t i (mark - i))
-  unfolding endBy
-  end-over below over = rw (load-from t i mark below, lt-leb _ _ over) refl
-
-  -- no record is left
-  pub end-none : mark ≤ i → true ≡ endBy mark (load t i (mark - i))
+-- the turns of its loop, from the last record kept to the first
+module _ (t : List ℕ) (mark left : ℕ) (more : 0 < left) where
+  end-last : endBy mark (load t 0 left) ≡ (endBy mark (load t 0 (left - 1)) && (leb (recordAt t (left - 1) .past .0) mark && true))
   unfolding endBy load
-  end-none past =
-      let left : mark - i ≡ 0 = omega arith in
-      rw left refl
+  end-last =
+      let k : ℕ = left - 1 in
+      let count : left ≡ k + 1 = omega arith in
+      ap (λ (n : ℕ). endBy mark (load t 0 n)) count ∙ ap (endBy mark) (load-append k 1 t 0) ∙ end-by-++ mark (load t 0 k) (load t (0 + k) 1) ∙ rw zero-add refl
+
+  -- its descendants end by the mark
+  pub end-next : recordAt t (left - 1) .past .0 ≤ mark → endBy mark (load t 0 (left - 1)) ≡ endBy mark (load t 0 left)
+  end-next ends = sym (end-last ∙ rw (le-leb _ _ ends) (and-yes (endBy mark (load t 0 (left - 1)))))
+
+  -- its descendants end after the mark
+  pub end-over : mark < recordAt t (left - 1) .past .0 → false ≡ endBy mark (load t 0 left)
+  end-over over = sym (end-last ∙ rw (lt-leb _ _ over) (and-no (endBy mark (load t 0 (left - 1)))))
+
+-- no record is left
+pub end-none : (t : List ℕ) (mark left : ℕ) → left ≤ 0 → true ≡ endBy mark (load t 0 left)
+unfolding endBy load
+end-none t mark left none =
+    let count : left ≡ 0 = omega arith in
+    rw count refl
 
 -- it is judged on every record kept
 pub end-by-each : (n : ℕ) (t : List ℕ) (mark at : ℕ) → endBy mark (load t at n) ≡ true → (i : ℕ) → at ≤ i → i < at + n → recordAt t i .past .0 ≤ mark
@@ -68,6 +77,12 @@ end-by-each (suc n) t mark at kept i from below =
         let same : i ≡ at = omega arith in
         rw same here
     go (no later) here behind = behind (omega arith)
+
+pub each-end-by : (n : ℕ) (t : List ℕ) (mark at : ℕ) → ((i : ℕ) → at ≤ i → i < at + n → recordAt t i .past .0 ≤ mark) → endBy mark (load t at n) ≡ true
+unfolding endBy load
+each-end-by zero t mark at ends = refl
+each-end-by (suc n) t mark at ends =
+    and-true (le-leb (recordAt t at .past .0) mark (ends at (omega arith) (omega arith))) (each-end-by n t mark (suc at) (λ i from below. ends i (omega arith) (omega arith)))
 
 module _ (t : List ℕ) (mark : ℕ) where
   -- 4: the header is not in order
@@ -112,6 +127,10 @@ module _ (t : List ℕ) (at : ℕ) where
   pub read-0 : headed t ≡ true → at < used t → readable (recordAt t at) ≡ true → readCall t at ≡ record { outcome = done; «record» = recordAt t at }
   unfolding readCall
   read-0 good inside fine = rw (good, lt-ltb at (used t) inside, fine)
+
+-- word 0 of a record that is read is below 393,216
+pub words-end : 65536 * suc lastRegistry ≡ 393216
+words-end = refl
 
 -- two results over the C boundary that meet read's contract are equal
 pub record-unique : {meant : Reading} {one other words′ words″ : List ℕ} → GivesRecord meant one words′ → GivesRecord meant other words″ → (one ≡ other) × (words′ ≡ words″)

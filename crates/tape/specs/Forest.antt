@@ -4,14 +4,14 @@ use mathlib.Core.List.{List, [], _∷_, _++_}
 use mathlib.Core.Path.{_≡_}
 use Prim.Native.Nat.{ℕ, suc, _+_, _<_, max}
 use Rattle.tape.specs.Record.{holds, leafRecord, containerRecord}
-use Rattle.tape.specs.declared.Mark.{Mark}
+use Rattle.tape.specs.declared.Content.{Content}
 use Rattle.tape.specs.declared.Record.{Record}
 
 -- trees side by side: none; a leaf and the trees after it; a container, the trees in it and the trees after it
 pub data Forest : Type 0 where
   none : Forest
-  leaf : Mark → Forest → Forest
-  node : Mark → Forest → Forest → Forest
+  leaf : Content → Forest → Forest
+  node : Content → Forest → Forest → Forest
 
 -- how many records
 abbrev pub size : Forest → ℕ
@@ -39,7 +39,7 @@ depth (leaf m f) = depth f
 depth (node m k f) = max (suc (depth k)) (depth f)
 
 -- label and shape are an octet each, so that word 0 gives them back, and the shape is a container's or is not
-pub record Fits (container : Bool) (m : Mark) : Type 0 where
+pub record Fits (container : Bool) (m : Content) : Type 0 where
   pub label : m .label < 256
   pub shape : m .shape < 256
   pub kind : holds (m .shape) ≡ container

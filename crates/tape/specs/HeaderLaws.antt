@@ -9,15 +9,9 @@ use lib.Dec.{leb, eqb}
 use lib.ListN.{length, getD, length-set}
 use lib.Seq.{getD-set-same, getD-set-other}
 use Rattle.tape.specs.Both.{both}
-use Rattle.tape.specs.Tape.{used, room, headed, withUsed, cleared}
+use Rattle.tape.specs.Tape.{InOrder, used, headed, withUsed, cleared}
 
--- the header is in order
-pub record InOrder (t : List ℕ) : Type 0 where
-  pub long : 4 ≤ length t
-  pub offset : getD t 1 0 ≡ 4
-  pub width : getD t 2 0 ≡ 6
-  pub last : getD t 3 0 ≡ 0
-  pub fits : used t ≤ room t
+-- headed is the test of InOrder
 
 pub headed-in-order : (t : List ℕ) → headed t ≡ true → InOrder t
 unfolding headed

@@ -1,60 +1,11 @@
--- The contract of a function that writes records, and the laws by which such contracts compose.
-use mathlib.Core.Path.{_≡_, refl, sym, ap, _∙_}
-use mathlib.Core.List.{List, append-nil}
-use Prim.Native.Nat.{ℕ, suc, _+_}
-use native.Mathlib.Numerals.{add-one}
-use native.Mathlib.Omega.{arith}
-use Rattle.tape.specs.Record.{leafRecord, containerRecord}
-use Rattle.tape.specs.Tape.{putAt, store}
-use Rattle.tape.specs.TapeLaws.{store-append, length-store, container-last}
-use Rattle.tape.specs.Forest.{Forest, none, leaf, node, size, _⧺_, flat}
-use Rattle.tape.specs.ForestLaws.{size-⧺, length-flat, flat-⧺}
-use Rattle.tape.specs.declared.Mark.{Mark}
-use lib.ListN.{length}
+-- The contract of a function that writes records.
+use mathlib.Core.Path.{_≡_}
+use mathlib.Core.List.{List}
+use Prim.Native.Nat.{ℕ, _+_}
+use Rattle.tape.specs.Tape.{store}
+use Rattle.tape.specs.Forest.{Forest, size, flat}
 
--- from the tape t to the tape u, and from position at to position next, the forest f was laid, and nothing else changed
+-- from position at to position next the forest f was laid on the tape t, as far as the tape reaches, which made it u; nothing else changed
 pub record Laid (f : Forest) (t u : List ℕ) (at next : ℕ) : Type 0 where
   pub place : next ≡ at + size f
   pub words : u ≡ store t at (flat at f)
-
--- nothing
-pub laid-none : {t : List ℕ} {at : ℕ} → Laid none t t at at
-unfolding flat store
-laid-none {t} {at} = record { place = omega arith; words = refl }
-
--- a leaf
-pub laid-leaf : (m : Mark) {t u : List ℕ} {at : ℕ} → u ≡ putAt t at (leafRecord m) → Laid (leaf m none) t u at (at + 1)
-unfolding flat store
-laid-leaf m e = record { place = refl; words = e }
-
--- one after the other
-pub laid-then : {f g : Forest} {t u v : List ℕ} {at mid next : ℕ} → Laid f t u at mid → Laid g u v mid next → Laid (f ⧺ g) t v at next
-laid-then {f} {g} {t} {u} {v} {at} {mid} {next} a b =
-    record {
-      place = omega (arith, size-⧺ f g, a .place, b .place);
-      words =
-          b .words
-          ∙ ap (λ (n : ℕ). store u n (flat n g)) (a .place)
-          ∙ ap (λ (l : List ℕ). store l (at + size f) (flat (at + size f) g)) (a .words)
-          ∙ ap (λ (n : ℕ). store (store t at (flat at f)) (at + n) (flat (at + size f) g)) (sym (length-flat f at))
-          ∙ sym (store-append (flat at f) (flat (at + size f) g) t at)
-          ∙ ap (store t at) (sym (flat-⧺ f g at));
-    }
-
--- the children, and then their container in front of them
-pub laid-node : (m : Mark) {k : Forest} {t u v : List ℕ} {at next : ℕ}
-    → Laid k t u (at + 1) next → v ≡ putAt u at (containerRecord m (at + 1) next) → Laid (node m k none) t v at next
-unfolding flat
-laid-node m {k} {t} {u} {v} {at} {next} a e =
-    record {
-      place = omega (arith, a .place);
-      words =
-          e
-          ∙ ap (λ (l : List ℕ). putAt l at (containerRecord m (at + 1) next)) (a .words)
-          ∙ container-last t at (containerRecord m (at + 1) next) (flat (at + 1) k)
-          ∙ rw (a .place, add-one at, append-nil (flat (suc at) k)) refl;
-    }
-
--- the length of the tape is kept
-pub laid-length : {f : Forest} {t u : List ℕ} {at next : ℕ} → Laid f t u at next → length u ≡ length t
-laid-length {f} {t} {u} {at} a = ap length (a .words) ∙ length-store (flat at f) t at

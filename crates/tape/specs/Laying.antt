@@ -5,7 +5,8 @@ use Prim.Native.Nat.{ℕ, _+_, _≤_}
 use native.Mathlib.Omega.{arith}
 use Rattle.tape.specs.Forest.{Forest, none, size, _⧺_}
 use Rattle.tape.specs.ForestLaws.{⧺-none, ⧺-assoc, size-⧺}
-use Rattle.tape.specs.Laid.{Laid, laid-none, laid-then}
+use Rattle.tape.specs.Laid.{Laid}
+use Rattle.tape.specs.LaidLaws.{laid-none, laid-then}
 
 -- left i is what the octets from i on become, and more i how many of them are taken
 pub record Laying (left : ℕ → Forest) (more : ℕ → ℕ) (t u : List ℕ) (at i next : ℕ) : Type 0 where

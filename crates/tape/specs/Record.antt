@@ -3,11 +3,11 @@ use mathlib.Core.Bool.{Bool, _||_}
 use mathlib.Core.List.{List, [], _∷_}
 use Prim.Native.Nat.{ℕ, _+_, _*_, _/_, _%_}
 use lib.Dec.{eqb}
-use Rattle.tape.specs.declared.Mark.{Mark}
+use Rattle.tape.specs.declared.Content.{Content}
 use Rattle.tape.specs.declared.Record.{Record}
 
 -- word 0
-abbrev pub tagOf : Mark → ℕ
+abbrev pub tagOf : Content → ℕ
 tagOf m = m .label + 256 * m .shape + 65536 * m .registry
 
 -- the label in word 0
@@ -27,13 +27,17 @@ abbrev pub holds : ℕ → Bool
 holds shape = eqb shape 7 || eqb shape 8
 
 -- the record of a container whose first child is at position first, and whose descendants end before position past
-abbrev pub containerRecord : Mark → ℕ → ℕ → Record
+abbrev pub containerRecord : Content → ℕ → ℕ → Record
 containerRecord m first past =
     record { tag = tagOf m; start = m .start; end = m .end; number = m .number; first = record { 0 = first }; past = record { 0 = past } }
 
 -- the record of a leaf: an unused word of a record is 0
-abbrev pub leafRecord : Mark → Record
+abbrev pub leafRecord : Content → Record
 leafRecord m = containerRecord m 0 0
+
+-- a record without its positions, as its words say
+abbrev pub contentOf : Record → Content
+contentOf r = record { label = labelOf r; shape = shapeOf r; registry = registryOf r; start = r .start; end = r .end; number = r .number }
 
 -- a record of six zeros
 abbrev pub zeros : Record

@@ -1,7 +1,8 @@
 -- A tape (document 01, 'The tape'): a header of four words, and then records of six.
+use mathlib.Core.Path.{_≡_}
 use mathlib.Core.Bool.{Bool, _&&_, cond}
 use mathlib.Core.List.{List, [], _∷_}
-use Prim.Native.Nat.{ℕ, zero, suc, _+_, _*_, _-_, _/_}
+use Prim.Native.Nat.{ℕ, zero, suc, _+_, _*_, _-_, _/_, _≤_}
 use lib.Dec.{leb, eqb}
 use lib.ListN.{length, getD, set}
 use lib.Seq.{sets}
@@ -18,9 +19,17 @@ used t = getD t 0 0
 abbrev pub room : List ℕ → ℕ
 room t = (length t - 4) / 6
 
--- the header is in order: not under 4 words, words 1 to 3 are 4, 6, 0, and used is not over room
+-- the header is in order: a tape not under 4 words, words 1 to 3 are 4, 6, 0, and used is not over room
 unfoldable pub headed : List ℕ → Bool
 headed t = leb 4 (length t) && (eqb (getD t 1 0) 4 && (eqb (getD t 2 0) 6 && (eqb (getD t 3 0) 0 && leb (used t) (room t))))
+
+-- the same as a statement
+pub record InOrder (t : List ℕ) : Type 0 where
+  pub long : 4 ≤ length t
+  pub offset : getD t 1 0 ≡ 4
+  pub width : getD t 2 0 ≡ 6
+  pub last : getD t 3 0 ≡ 0
+  pub fits : used t ≤ room t
 
 -- the tape with another count of used records, and nothing else changed
 abbrev pub withUsed : ℕ → List ℕ → List ℕ

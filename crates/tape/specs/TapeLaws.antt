@@ -74,12 +74,6 @@ unfolding store
 length-store [] t at = refl
 length-store (r ∷ rs) t at = length-store rs (putAt t at r) (suc at) ∙ length-putAt t at r
 
--- a tape of no words takes no record
-pub store-empty : (rs : List Record) (at : ℕ) → store [] at rs ≡ []
-unfolding store
-store-empty [] at = refl
-store-empty (r ∷ rs) at = rw (← put-outside [] at r (omega arith)) (store-empty rs (suc at))
-
 -- some records and then others
 pub store-append : (xs ys : List Record) (t : List ℕ) (at : ℕ) → store t at (xs ++ ys) ≡ store (store t at xs) (at + length xs) ys
 unfolding store

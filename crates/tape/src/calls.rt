@@ -1,5 +1,5 @@
 // The calls clear, cut back and read (document 01, 'Numbers a call gives back').
-use crate::Place;
+use crate::Position;
 use crate::Record;
 use crate::header::in_order;
 use crate::header::set_used;
@@ -13,7 +13,6 @@ ghost use mathlib.Core.Path.{_≡_};
 ghost use Prim.Native.Nat.{_+_, _*_, _≤_};
 ghost use lib.ListN.{length};
 ghost use Rattle.outcome.specs.Call.{Gives};
-ghost use Rattle.tape.specs.Record.{zeros};
 ghost use Rattle.tape.specs.Tape.{load};
 ghost use Rattle.tape.specs.Calls.{clearCall, endBy, cutBackCall, readable, noRecord, readCall};
 
@@ -38,23 +37,24 @@ pub fn clear(tape: &mut [u64]) -> Outcome
 }
 
 // Whether no record before `mark` has descendants at or past it.
-fn end_by(tape: &[u64], mark: Place) -> bool
+fn end_by(tape: &[u64], mark: Position) -> bool
     requires { ⌜ 4 + 6 * mark .0 ≤ length (now tape) ⌝ }
     ensures { λ r. ⌜ r ≡ endBy (mark .0) (load (now (tape .entry)) 0 (mark .0)) ⌝ }
 {
-    let mut i = 0;
-    while i < mark.0 {
-        let r = get(tape, Place(i));
-        if mark.0 < r.past.0 {
+    let end = mark.0;
+    let mut left = end;
+    while 0 < left {
+        let r = get(tape, Position(left - 1));
+        if end < r.past.0 {
             return false;
         }
-        i += 1;
+        left -= 1;
     }
     true
 }
 
 // The call `cut back`: lowers the count of used records to `mark`.
-pub fn cut_back(tape: &mut [u64], mark: Place) -> Outcome
+pub fn cut_back(tape: &mut [u64], mark: Position) -> Outcome
     ensures { λ r. ⌜ Gives (cutBackCall (now (tape .entry)) (mark .0)) r (now (tape .exit)) ⌝ }
 {
     if !in_order(tape) {
@@ -98,7 +98,7 @@ fn no_record(answer: u8) -> Reading
 }
 
 // The call `read`: gives the record at position `at`.
-pub fn read(tape: &[u64], at: Place) -> Reading
+pub fn read(tape: &[u64], at: Position) -> Reading
     ensures { λ r. ⌜ r ≡ readCall (now (tape .entry)) (at .0) ⌝ }
 {
     if !in_order(tape) {

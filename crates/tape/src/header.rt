@@ -1,11 +1,11 @@
 // The header: records used, the word offset of the first record, words in a record, zero.
-use crate::Place;
+use crate::Position;
 ghost use mathlib.Core.Path.{_≡_};
 ghost use Prim.Native.Nat.{_≤_};
 ghost use lib.ListN.{length};
 ghost use Rattle.tape.specs.Tape.{used, headed, withUsed};
 
-// Whether the header is in order; where it is not, a call is refused with 4.
+// Whether the header is in order; where it is not, all calls but clear are refused with 4.
 pub fn in_order(tape: &[u64]) -> bool
     ensures { λ r. ⌜ r ≡ headed (now (tape .entry)) ⌝ }
 {
@@ -25,15 +25,15 @@ pub fn in_order(tape: &[u64]) -> bool
 }
 
 // How many records are used, which is also the position after them.
-pub fn used(tape: &[u64]) -> Place
+pub fn used(tape: &[u64]) -> Position
     requires { ⌜ 4 ≤ length (now tape) ⌝ }
     ensures { λ r. ⌜ r .0 ≡ used (now (tape .entry)) ⌝ }
 {
-    Place(tape[0] as usize)
+    Position(tape[0] as usize)
 }
 
 // Makes the records before `end` the used ones.
-pub fn set_used(tape: &mut [u64], end: Place)
+pub fn set_used(tape: &mut [u64], end: Position)
     requires { ⌜ 4 ≤ length (now tape) ⌝ }
     ensures { λ _. ⌜ now (tape .exit) ≡ withUsed (end .0) (now (tape .entry)) ⌝ }
 {

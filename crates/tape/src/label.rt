@@ -1,4 +1,4 @@
-// The labels of document 01: 0 to 46 are the field numbers of docs/src, 47 to 56 what stands inside a container.
+// The labels of document 01: 0 to 46 are the field numbers of docs/src, 47 to 56 are those that 01 adds.
 pub struct Label;
 
 impl Label {

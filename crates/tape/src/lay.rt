@@ -1,6 +1,6 @@
-// A leaf and a container laid on the tape: what every function that writes records is made of.
-use crate::Mark;
-use crate::Place;
+// A leaf and a container laid on the tape, as far as it reaches: what every function that writes records is made of.
+use crate::Content;
+use crate::Position;
 use crate::words::put;
 ghost use mathlib.Core.Path.{_≡_};
 ghost use Prim.Native.Nat.{_+_, _<_, _^_};
@@ -10,20 +10,20 @@ ghost use Rattle.tape.specs.Forest.{leaf, none};
 ghost use Rattle.tape.specs.Laid.{Laid};
 
 // Lays a leaf at position `at`, and gives the position after it.
-pub fn leaf(tape: &mut [u64], at: Place, mark: Mark) -> Place
+pub fn leaf(tape: &mut [u64], at: Position, content: Content) -> Position
     requires { ⌜ at .0 < 2 ^ 63 ⌝ }
-    ensures { λ r. ⌜ Laid (leaf mark none) (now (tape .entry)) (now (tape .exit)) (at .0) (r .0) ⌝ }
+    ensures { λ r. ⌜ Laid (leaf content none) (now (tape .entry)) (now (tape .exit)) (at .0) (r .0) ⌝ }
 {
     let p = at.0;
-    put(tape, at, mark.leaf());
-    Place(p + 1)
+    put(tape, at, content.leaf());
+    Position(p + 1)
 }
 
 // Lays a container at position `at`, whose children stand behind it, up to position `next`.
-pub fn container(tape: &mut [u64], at: Place, mark: Mark, next: Place)
+pub fn container(tape: &mut [u64], at: Position, content: Content, next: Position)
     requires { ⌜ at .0 < 2 ^ 63 ⌝ }
-    ensures { λ _. ⌜ now (tape .exit) ≡ putAt (now (tape .entry)) (at .0) (containerRecord mark (at .0 + 1) (next .0)) ⌝ }
+    ensures { λ _. ⌜ now (tape .exit) ≡ putAt (now (tape .entry)) (at .0) (containerRecord content (at .0 + 1) (next .0)) ⌝ }
 {
     let p = at.0;
-    put(tape, at, mark.container(Place(p + 1), next));
+    put(tape, at, content.container(Position(p + 1), next));
 }

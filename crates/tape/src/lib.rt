@@ -15,10 +15,10 @@ pub mod words;
 pub struct Octet(pub usize);
 
 // A tape position: which record, the first at 0.
-pub struct Place(pub usize);
+pub struct Position(pub usize);
 
 // A record without its positions: what it is, its first octet and one past its last, its number.
-pub struct Mark {
+pub struct Content {
     pub label: u8,
     pub shape: u8,
     pub registry: u8,
@@ -33,20 +33,20 @@ pub struct Record {
     pub start: Octet,
     pub end: Octet,
     pub number: u64,
-    pub first: Place,
-    pub past: Place,
+    pub first: Position,
+    pub past: Position,
 }
 
-impl Mark {
+impl Content {
     // Its record, as a leaf.
     pub fn leaf(self) -> Record
         ensures { λ r. ⌜ r ≡ leafRecord self ⌝ }
     {
-        self.container(Place(0), Place(0))
+        self.container(Position(0), Position(0))
     }
 
     // Its record, as a container of the records from `first` up to `past`.
-    pub fn container(self, first: Place, past: Place) -> Record
+    pub fn container(self, first: Position, past: Position) -> Record
         ensures { λ r. ⌜ r ≡ containerRecord self (first .0) (past .0) ⌝ }
     {
         let start = self.start;
@@ -72,8 +72,8 @@ impl Record {
             start: Octet(0),
             end: Octet(0),
             number: 0,
-            first: Place(0),
-            past: Place(0),
+            first: Position(0),
+            past: Position(0),
         }
     }
 

@@ -1,5 +1,5 @@
 // The nest test (document 01, 'The tape').
-use crate::Place;
+use crate::Position;
 use crate::Record;
 use crate::header::in_order;
 use crate::header::used;
@@ -28,7 +28,7 @@ fn is_leaf(r: Record) -> bool
 }
 
 // Whether the children of the record at position `at` follow it at once, and end in its parent.
-fn is_container(r: Record, at: Place, end: Place) -> bool
+fn is_container(r: Record, at: Position, end: Position) -> bool
     requires { ⌜ at .0 < 2 ^ 62 ⌝ }
     ensures { λ b. ⌜ b ≡ isContainer r (at .0) (end .0) ⌝ }
 {
@@ -42,22 +42,22 @@ fn is_container(r: Record, at: Place, end: Place) -> bool
 }
 
 // Whether the records from `from` up to `end` split into trees, at most `depth` containers deep.
-fn split(tape: &[u64], depth: usize, from: Place, end: Place) -> bool
+fn split(tape: &[u64], depth: usize, from: Position, end: Position) -> bool
     requires { ⌜ 4 + 6 * end .0 ≤ length (now tape) ⌝ }
     ensures { λ b. ⌜ b ≡ trees (now (tape .entry)) depth (from .0) (end .0) ⌝ }
 {
     let mut at = from.0;
     while at < end.0 {
-        let r = get(tape, Place(at));
+        let r = get(tape, Position(at));
         if holds_others(r) {
             if depth == 0 {
                 return false;
             }
-            if !is_container(r, Place(at), end) {
+            if !is_container(r, Position(at), end) {
                 return false;
             }
             let past = r.past.0;
-            if !split(tape, depth - 1, Place(at + 1), Place(past)) {
+            if !split(tape, depth - 1, Position(at + 1), Position(past)) {
                 return false;
             }
             at = past;
@@ -79,5 +79,5 @@ pub fn nest_test(tape: &[u64]) -> bool
         return false;
     }
     let count = used(tape);
-    split(tape, DEEPEST, Place(0), count)
+    split(tape, DEEPEST, Position(0), count)
 }

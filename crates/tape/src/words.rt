@@ -1,6 +1,6 @@
 // One function that writes a record's six words, and one that reads them.
 use crate::Octet;
-use crate::Place;
+use crate::Position;
 use crate::Record;
 ghost use mathlib.Core.Path.{_≡_};
 ghost use Prim.Native.Nat.{_+_, _*_, _≤_};
@@ -8,7 +8,7 @@ ghost use lib.ListN.{length};
 ghost use Rattle.tape.specs.Tape.{putAt, recordAt};
 
 // Writes the six words of `r` at position `at`, where they lie inside the tape, and nothing elsewhere.
-pub fn put(tape: &mut [u64], at: Place, r: Record)
+pub fn put(tape: &mut [u64], at: Position, r: Record)
     ensures { λ _. ⌜ now (tape .exit) ≡ putAt (now (tape .entry)) (at .0) r ⌝ }
 {
     let n = tape.len();
@@ -27,7 +27,7 @@ pub fn put(tape: &mut [u64], at: Place, r: Record)
 }
 
 // The record at position `at`.
-pub fn get(tape: &[u64], at: Place) -> Record
+pub fn get(tape: &[u64], at: Position) -> Record
     requires { ⌜ 4 + 6 * at .0 + 6 ≤ length (now tape) ⌝ }
     ensures { λ r. ⌜ r ≡ recordAt (now (tape .entry)) (at .0) ⌝ }
 {
@@ -37,7 +37,7 @@ pub fn get(tape: &[u64], at: Place) -> Record
         start: Octet(tape[b + 1] as usize),
         end: Octet(tape[b + 2] as usize),
         number: tape[b + 3],
-        first: Place(tape[b + 4] as usize),
-        past: Place(tape[b + 5] as usize),
+        first: Position(tape[b + 4] as usize),
+        past: Position(tape[b + 5] as usize),
     }
 }

@@ -1,5 +1,5 @@
 -- The leaf's record is put.
-use Rattle.tape.specs.Laid.{laid-leaf}
+use Rattle.tape.specs.LaidLaws.{laid-leaf}
 use borrow.Author.Needs.{needs}
 use Rattle.tape.proofs.lay.leaf.Statement.{statement}
 use Rattle.tape.proofs.lay.leaf.Tie as tie

@@ -1,4 +1,4 @@
--- What the nest test's yes means: the records are those of trees. And that trees laid behind trees, or cut back, are trees.
+-- The nest test says yes of a span of records exactly where they are those of a forest.
 use mathlib.Core.Path.{_≡_, refl, sym, ap, _∙_}
 use mathlib.Core.Bool.{Bool, true, false, _&&_, cond}
 use mathlib.Core.List.{List, _∷_, _++_, head-eq-of-cons-eq, tail-eq-of-cons-eq}
@@ -11,23 +11,17 @@ use lib.ListN.{length, take, drop}
 use lib.Seq.{take-at, drop-at}
 use borrow.Author.Tests.{le-leb, eq-eqb, leb-true, eqb-true}
 use Rattle.tape.specs.Both.{both}
-use Rattle.tape.specs.Record.{shapeOf, holds, containerRecord}
-use Rattle.tape.specs.RecordLaws.{markOf, made-of-mark, shape-made}
+use Rattle.tape.specs.Record.{shapeOf, holds, containerRecord, contentOf}
+use Rattle.tape.specs.RecordLaws.{made-of-content, shape-made}
 use Rattle.tape.specs.Tape.{recordAt, load}
-use Rattle.tape.specs.Load.{load-from, load-append, length-load}
+use Rattle.tape.specs.LoadLaws.{load-from, load-append, length-load}
 use Rattle.tape.specs.Forest.{Forest, none, leaf, node, size, flat, depth, Fits, Formed}
 use Rattle.tape.specs.ForestLaws.{length-flat}
 use Rattle.tape.specs.Nest.{isLeaf, isContainer, trees}
 use Rattle.tape.specs.NestLaws.{Ends, container-ends, trees-none, trees-one, past-container, past-leaf}
-use Rattle.tape.specs.declared.Mark.{Mark}
+use Rattle.tape.specs.WellNested.{Split}
+use Rattle.tape.specs.declared.Content.{Content}
 use Rattle.tape.specs.declared.Record.{Record}
-
--- the records from at up to end are those of a forest, at most d containers deep
-pub record Split (t : List ℕ) (d at end : ℕ) : Type 0 where
-  pub forest : Forest
-  pub held : load t at (end - at) ≡ flat at forest
-  pub shallow : depth forest ≤ d
-  pub formed : Formed forest
 
 -- the nest test says yes only where there is such a forest
 
@@ -48,11 +42,11 @@ split-leaf t d at end below alone empty after =
     let r : Record = recordAt t at in
     let words = both (eqb (r .first .0) 0) (eqb (r .past .0) 0) empty in
     record {
-      forest = leaf (markOf r) (after .forest);
+      forest = leaf (contentOf r) (after .forest);
       held =
           load-from t at end below
           ∙ ap (λ (l : List Record). r ∷ l) (after .held ∙ rw (add-one at) refl)
-          ∙ ap (λ (x : Record). x ∷ flat (suc at) (after .forest)) (made-of-mark r 0 0 (eqb-true (r .first .0) 0 (words .0)) (eqb-true (r .past .0) 0 (words .1)));
+          ∙ ap (λ (x : Record). x ∷ flat (suc at) (after .forest)) (made-of-content r 0 0 (eqb-true (r .first .0) 0 (words .0)) (eqb-true (r .past .0) 0 (words .1)));
       shallow = after .shallow;
       formed = (record { label = omega arith; shape = omega arith; kind = alone }, after .formed);
     }
@@ -71,7 +65,7 @@ split-node t d at end below deep holding ends inner after =
     let count : end - (at + 1) ≡ past - (at + 1) + (end - past) = omega (arith, ends .after, ends .inside) in
     let next : at + 1 + (past - (at + 1)) ≡ past = omega (arith, ends .after) in
     record {
-      forest = node (markOf r) (inner .forest) (after .forest);
+      forest = node (contentOf r) (inner .forest) (after .forest);
       held =
           load-from t at end below
           ∙ ap (λ (l : List Record). r ∷ l)
@@ -80,7 +74,7 @@ split-node t d at end below deep holding ends inner after =
           ∙ ap (λ (l : List Record). l ++ load t (at + 1 + (past - (at + 1))) (end - past)) held-inner
           ∙ ap (λ (n : ℕ). flat (suc at) (inner .forest) ++ load t n (end - past)) next
           ∙ ap (λ (l : List Record). flat (suc at) (inner .forest) ++ l) (after .held ∙ ap (λ (n : ℕ). flat n (after .forest)) last))
-          ∙ ap (λ (x : Record). x ∷ (flat (suc at) (inner .forest) ++ flat (suc at + size (inner .forest)) (after .forest))) (made-of-mark r (suc at) (suc at + size (inner .forest)) first last);
+          ∙ ap (λ (x : Record). x ∷ (flat (suc at) (inner .forest) ++ flat (suc at + size (inner .forest)) (after .forest))) (made-of-content r (suc at) (suc at + size (inner .forest)) first last);
       shallow = omega (arith, inner .shallow, after .shallow);
       formed = (record { label = omega arith; shape = omega arith; kind = holding }, (inner .formed, after .formed));
     }
@@ -140,11 +134,11 @@ both-held t at n m rs ss count held =
     )
 
 -- a container's record is one
-container-made : (m : Mark) (at past end : ℕ) → at + 1 ≤ past → past ≤ end → isContainer (containerRecord m (at + 1) past) at end ≡ true
+container-made : (m : Content) (at past end : ℕ) → at + 1 ≤ past → past ≤ end → isContainer (containerRecord m (at + 1) past) at end ≡ true
 container-made m at past end after inside = rw (eq-eqb (at + 1) (at + 1) refl, le-leb (at + 1) past after, le-leb past end inside) refl
 
 -- a record made of a mark has the mark's shape
-kind-made : {kind : Bool} (m : Mark) (first past : ℕ) {r : Record} → Fits kind m → r ≡ containerRecord m first past → holds (shapeOf r) ≡ kind
+kind-made : {kind : Bool} (m : Content) (first past : ℕ) {r : Record} → Fits kind m → r ≡ containerRecord m first past → holds (shapeOf r) ≡ kind
 kind-made m first past fits made = ap (λ (x : Record). holds (shapeOf x)) made ∙ ap holds (shape-made m first past (fits .label) (fits .shape)) ∙ fits .kind
 
 trees-flat : (f : Forest) (t : List ℕ) (d at : ℕ) → load t at (size f) ≡ flat at f → depth f ≤ d → Formed f → trees t d at (at + size f) ≡ true
