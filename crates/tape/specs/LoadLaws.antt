@@ -1,5 +1,5 @@
 -- Records read back: what was stored is there, and every other record is as before.
-use mathlib.Core.Path.{_≡_, refl, ap, _∙_}
+use mathlib.Core.Path.{_≡_, refl, sym, ap, _∙_}
 use mathlib.Core.Logic.{_⊎_, inl, inr}
 use mathlib.Core.List.{List, [], _∷_, _++_}
 use Prim.Native.Nat.{ℕ, zero, suc, _+_, _*_, _-_, _≤_, _<_}
@@ -21,12 +21,21 @@ getD-in [] l i k fits inside = absurd (omega arith)
 getD-in (v ∷ vs) l i zero fits inside = rw add-zero (getD-sets vs (set l i v) (suc i) i (inl (omega arith)) ∙ getD-set-same l i v 0 (omega arith))
 getD-in (v ∷ vs) l i (suc k) fits inside = rw (add-suc i k, ← suc-add i k) (getD-in vs (set l i v) (suc i) k (rw length-set (omega arith)) (omega arith))
 
--- two records whose six words agree
-record-words : (t : List ℕ) (at : ℕ) (r : Record) → ((k : ℕ) → k < 6 → getD t (4 + 6 * at + k) 0 ≡ getD (words r) k 0) → recordAt t at ≡ r
-record-words t at r same =
-    let tag : getD t (4 + 6 * at) 0 ≡ r .tag = rw add-zero at (same 0 (omega arith)) in
+-- the words of the record at a position are those of the tape
+words-at : (t : List ℕ) (at k : ℕ) → k < 6 → getD (words (recordAt t at)) k 0 ≡ getD t (4 + 6 * at + k) 0
+words-at t at zero below = ap (λ (n : ℕ). getD t n 0) (sym (add-zero (4 + 6 * at)))
+words-at t at (suc zero) below = refl
+words-at t at (suc (suc zero)) below = refl
+words-at t at (suc (suc (suc zero))) below = refl
+words-at t at (suc (suc (suc (suc zero)))) below = refl
+words-at t at (suc (suc (suc (suc (suc zero))))) below = refl
+words-at t at (suc (suc (suc (suc (suc (suc k)))))) below = absurd (omega arith)
+
+-- records whose six words agree are equal
+record-words : (r s : Record) → ((k : ℕ) → k < 6 → getD (words r) k 0 ≡ getD (words s) k 0) → r ≡ s
+record-words r s same =
     λ j. record {
-      tag = tag j;
+      tag = same 0 (omega arith) j;
       start = record { 0 = same 1 (omega arith) j };
       end = record { 0 = same 2 (omega arith) j };
       number = same 3 (omega arith) j;
@@ -37,20 +46,13 @@ record-words t at r same =
 -- what was put is there
 pub record-put : (t : List ℕ) (at : ℕ) (r : Record) → 4 + 6 * at + 6 ≤ length t → recordAt (putAt t at r) at ≡ r
 unfolding putAt
-record-put t at r inside = rw (le-leb (4 + 6 * at + 6) (length t) inside) (record-words (sets t (4 + 6 * at) (words r)) at r (λ k below. getD-in (words r) t (4 + 6 * at) k inside below))
+record-put t at r inside =
+    let u : List ℕ = sets t (4 + 6 * at) (words r) in
+    rw (le-leb (4 + 6 * at + 6) (length t) inside) (record-words (recordAt u at) r (λ k below. words-at u at k below ∙ getD-in (words r) t (4 + 6 * at) k inside below))
 
 -- where six words agree, so does the record
 pub record-same : (t u : List ℕ) (at : ℕ) → ((k : ℕ) → k < 6 → getD t (4 + 6 * at + k) 0 ≡ getD u (4 + 6 * at + k) 0) → recordAt t at ≡ recordAt u at
-record-same t u at same =
-    let tag : getD t (4 + 6 * at) 0 ≡ getD u (4 + 6 * at) 0 = rw add-zero at (same 0 (omega arith)) in
-    λ j. record {
-      tag = tag j;
-      start = record { 0 = same 1 (omega arith) j };
-      end = record { 0 = same 2 (omega arith) j };
-      number = same 3 (omega arith) j;
-      first = record { 0 = same 4 (omega arith) j };
-      past = record { 0 = same 5 (omega arith) j };
-    }
+record-same t u at same = record-words (recordAt t at) (recordAt u at) (λ k below. words-at t at k below ∙ same k below ∙ sym (words-at u at k below))
 
 -- a record outside those that were stored
 pub record-store : (rs : List Record) (t : List ℕ) (at i : ℕ) → (i < at) ⊎ (at + length rs ≤ i) → recordAt (store t at rs) i ≡ recordAt t i

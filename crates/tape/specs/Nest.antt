@@ -20,10 +20,11 @@ isContainer r at end = eqb (r .first .0) (at + 1) && (leb (at + 1) (r .past .0) 
 unfoldable pub treesIn : ℕ → List ℕ → ℕ → ℕ → ℕ → Bool
 treesIn zero t d at end = leb end at
 treesIn (suc n) t d at end =
+    let r : Record = recordAt t at in
     cond (leb end at) true
-    (cond (holds (shapeOf (recordAt t at)))
-    (leb 1 d && (isContainer (recordAt t at) at end && (treesIn n t (d - 1) (at + 1) (recordAt t at .past .0) && treesIn n t d (recordAt t at .past .0) end)))
-    (isLeaf (recordAt t at) && treesIn n t d (at + 1) end))
+    (cond (holds (shapeOf r))
+    (leb 1 d && (isContainer r at end && (treesIn n t (d - 1) (at + 1) (r .past .0) && treesIn n t d (r .past .0) end)))
+    (isLeaf r && treesIn n t d (at + 1) end))
 
 -- the records from at up to end split into trees, at most d containers deep
 unfoldable pub trees : List ℕ → ℕ → ℕ → ℕ → Bool

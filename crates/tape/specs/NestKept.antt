@@ -1,27 +1,23 @@
 -- Where the nest test says yes before a clear or cut back, it says yes after.
 use mathlib.Core.Path.{_≡_, refl, sym, ap, _∙_}
-use mathlib.Core.Bool.{Bool, true, false, _&&_, cond}
+use mathlib.Core.Bool.{Bool, true, false}
+use mathlib.Core.Logic.{⊎-elim}
 use mathlib.Core.List.{List}
 use Prim.Native.Nat.{ℕ, zero, suc, _+_, _-_, _≤_, _<_}
 use native.Mathlib.Decide.{decLe}
 use native.Mathlib.Omega.{arith}
-use lib.Dec.{leb}
 use lib.ListN.{length}
-use borrow.Author.Tests.{le-leb, eq-eqb, leb-true}
 use Rattle.outcome.specs.Call.{After}
 use Rattle.tape.specs.Limits.{deepest}
-use Rattle.tape.specs.Both.{both}
-use Rattle.tape.specs.Record.{shapeOf, holds}
 use Rattle.tape.specs.Tape.{used, headed, withUsed, cleared, recordAt, load}
 use Rattle.tape.specs.HeaderLaws.{in-order-headed, with-used-in-order, cleared-in-order, used-cleared, used-inside}
 use Rattle.tape.specs.Calls.{clearCall, endBy, cutBackCall}
 use Rattle.tape.specs.CallsLaws.{clear-0, cut-6, cut-7, cut-0, end-by-each}
-use Rattle.tape.specs.Nest.{isLeaf, isContainer, trees, nestTest}
-use Rattle.tape.specs.NestLaws.{Ends, container-ends, trees-none, trees-one, past-container, past-leaf}
+use Rattle.tape.specs.Nest.{trees, nestTest}
+use Rattle.tape.specs.NestLaws.{ends-container, trees-none, trees-cases, past-container, past-leaf}
 use Rattle.tape.specs.WellNested.{Split, WellNested}
 use Rattle.tape.specs.SplitLaws.{trees-split, split-trees}
 use Rattle.tape.specs.WellNestedLaws.{yes-nested, nested-yes, load-with-used, used-with-used}
-use Rattle.tape.specs.declared.Record.{Record}
 
 -- clear
 
@@ -46,26 +42,12 @@ clear-keeps t exit left yes′ =
 cut-one : (t : List ℕ) (d at end mark : ℕ) → at < mark → mark ≤ end → recordAt t at .past .0 ≤ mark → trees t d at end ≡ true
     → ((past : ℕ) → at < past → trees t d past end ≡ true → trees t d past mark ≡ true)
     → trees t d at mark ≡ true
-cut-one t d at end mark below inside ends yes′ behind = go (holds (shapeOf r)) refl (sym (trees-one t d at end (omega arith)) ∙ yes′)
-  where
-    r : Record
-    r = recordAt t at
-
-    children : Bool
-    children = isContainer r at end && (trees t (d - 1) (at + 1) (r .past .0) && trees t d (r .past .0) end)
-
-    go : (b : Bool) → holds (shapeOf r) ≡ b → cond b (leb 1 d && children) (isLeaf r && trees t d (at + 1) end) ≡ true → trees t d at mark ≡ true
-    go false alone h =
-        let x = both (isLeaf r) (trees t d (at + 1) end) h in
-        sym (past-leaf t d at mark below alone (x .0)) ∙ behind (at + 1) (omega arith) (x .1)
-    go true holding h =
-        let x = both (leb 1 d) children h in
-        let y = both (isContainer r at end) _ (x .1) in
-        let z = both (trees t (d - 1) (at + 1) (r .past .0)) (trees t d (r .past .0) end) (y .1) in
-        let e : Ends r at end = container-ends r at end (y .0) in
-        let deep : 1 ≤ d = leb-true 1 d (x .0) in
-        let fits : isContainer r at mark ≡ true = rw (eq-eqb (r .first .0) (at + 1) (e .first), le-leb (at + 1) (r .past .0) (e .after), le-leb (r .past .0) mark ends) refl in
-        sym (past-container t d at mark below holding (omega arith) fits (z .0)) ∙ behind (r .past .0) (omega (arith, e .after)) (z .1)
+cut-one t d at end mark below inside ends yes′ behind =
+    ⊎-elim
+    (λ x. sym (past-leaf t d at mark below (x .alone) (x .empty)) ∙ behind (at + 1) (omega arith) (x .after))
+    (λ x. sym (past-container t d at mark below (x .holding) (omega (arith, x .deep)) (ends-container (recordAt t at) at mark (x .ends .first) (x .ends .after) ends) (x .inner))
+    ∙ behind (recordAt t at .past .0) (omega (arith, x .ends .after)) (x .after))
+    (trees-cases t d at end (omega arith) yes′)
 
 -- all records before the mark
 cuts : (n : ℕ) (t : List ℕ) (d at end mark : ℕ) → mark ≤ at + n → mark ≤ end → ((i : ℕ) → at ≤ i → i < mark → recordAt t i .past .0 ≤ mark) → trees t d at end ≡ true → trees t d at mark ≡ true

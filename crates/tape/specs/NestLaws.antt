@@ -2,11 +2,11 @@
 use mathlib.Core.Path.{_≡_, refl, sym, _∙_}
 use mathlib.Core.Bool.{Bool, true, false, _&&_, cond}
 use mathlib.Core.List.{List}
-use mathlib.Core.Logic.{_≢_}
+use mathlib.Core.Logic.{_≢_, _⊎_, inl, inr}
 use Prim.Native.Nat.{ℕ, zero, suc, _+_, _-_, _≤_, _<_}
 use native.Mathlib.Omega.{arith}
 use lib.Dec.{leb, eqb}
-use borrow.Author.Tests.{le-leb, lt-leb, leb-true, leb-false, eqb-true}
+use borrow.Author.Tests.{le-leb, lt-leb, leb-true, leb-false, eqb-true, eq-eqb}
 use Rattle.tape.specs.Both.{both}
 use Rattle.tape.specs.Record.{shapeOf, holds}
 use Rattle.tape.specs.Tape.{recordAt}
@@ -24,6 +24,10 @@ container-ends r at end h =
     let a = both (eqb (r .first .0) (at + 1)) _ h in
     let b = both (leb (at + 1) (r .past .0)) _ (a .1) in
     record { first = eqb-true _ _ (a .0); after = leb-true _ _ (b .0); inside = leb-true _ _ (b .1) }
+
+-- and where they end so, it is one
+pub ends-container : (r : Record) (at end : ℕ) → r .first .0 ≡ at + 1 → at + 1 ≤ r .past .0 → r .past .0 ≤ end → isContainer r at end ≡ true
+ends-container r at end first after inside = rw (eq-eqb (r .first .0) (at + 1) first, le-leb (at + 1) (r .past .0) after, le-leb (r .past .0) end inside) refl
 
 -- treesIn
 
@@ -118,3 +122,38 @@ module _ (t : List ℕ) (d at end : ℕ) (below : at < end) where
     -- a leaf whose words 4 and 5 are
     pub past-leaf : isLeaf (recordAt t at) ≡ true → trees t d (at + 1) end ≡ trees t d at end
     past-leaf good = sym (trees-one t d at end below ∙ rw (alone, good) refl)
+
+-- one record of a span of which the nest test says yes
+
+-- a leaf, and a yes of what is after it
+pub record AsLeaf (t : List ℕ) (d at end : ℕ) : Type 0 where
+  pub alone : holds (shapeOf (recordAt t at)) ≡ false
+  pub empty : isLeaf (recordAt t at) ≡ true
+  pub after : trees t d (at + 1) end ≡ true
+
+-- a container, and a yes of what is in it and of what is after it
+pub record AsContainer (t : List ℕ) (d at end : ℕ) : Type 0 where
+  pub holding : holds (shapeOf (recordAt t at)) ≡ true
+  pub deep : 1 ≤ d
+  pub ends : Ends (recordAt t at) at end
+  pub inner : trees t (d - 1) (at + 1) (recordAt t at .past .0) ≡ true
+  pub after : trees t d (recordAt t at .past .0) end ≡ true
+
+pub trees-cases : (t : List ℕ) (d at end : ℕ) → at < end → trees t d at end ≡ true → AsLeaf t d at end ⊎ AsContainer t d at end
+trees-cases t d at end below yes′ = go (holds (shapeOf r)) refl (sym (trees-one t d at end below) ∙ yes′)
+  where
+    r : Record
+    r = recordAt t at
+
+    children : Bool
+    children = trees t (d - 1) (at + 1) (r .past .0) && trees t d (r .past .0) end
+
+    go : (b : Bool) → holds (shapeOf r) ≡ b → cond b (leb 1 d && (isContainer r at end && children)) (isLeaf r && trees t d (at + 1) end) ≡ true → AsLeaf t d at end ⊎ AsContainer t d at end
+    go false alone h =
+        let x = both (isLeaf r) (trees t d (at + 1) end) h in
+        inl (record { alone = alone; empty = x .0; after = x .1 })
+    go true holding h =
+        let x = both (leb 1 d) (isContainer r at end && children) h in
+        let y = both (isContainer r at end) children (x .1) in
+        let z = both (trees t (d - 1) (at + 1) (r .past .0)) (trees t d (r .past .0) end) (y .1) in
+        inr (record { holding = holding; deep = leb-true 1 d (x .0); ends = container-ends r at end (y .0); inner = z .0; after = z .1 })

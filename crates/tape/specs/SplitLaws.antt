@@ -1,15 +1,16 @@
 -- The nest test says yes of a span of records exactly where they are those of a forest.
 use mathlib.Core.Path.{_≡_, refl, sym, ap, _∙_}
-use mathlib.Core.Bool.{Bool, true, false, _&&_, cond}
+use mathlib.Core.Bool.{Bool, true, false}
+use mathlib.Core.Logic.{⊎-elim}
 use mathlib.Core.List.{List, _∷_, _++_, head-eq-of-cons-eq, tail-eq-of-cons-eq}
 use Prim.Native.Nat.{ℕ, zero, suc, _+_, _-_, _≤_, _<_}
 use native.Mathlib.Decide.{decLe}
 use native.Mathlib.Numerals.{add-one}
 use native.Mathlib.Omega.{arith}
-use lib.Dec.{leb, eqb}
+use lib.Dec.{eqb}
 use lib.ListN.{length, take, drop}
 use lib.Seq.{take-at, drop-at}
-use borrow.Author.Tests.{le-leb, eq-eqb, leb-true, eqb-true}
+use borrow.Author.Tests.{eqb-true}
 use Rattle.tape.specs.Both.{both}
 use Rattle.tape.specs.Record.{shapeOf, holds, containerRecord, contentOf}
 use Rattle.tape.specs.RecordLaws.{made-of-content, shape-made}
@@ -18,7 +19,7 @@ use Rattle.tape.specs.LoadLaws.{load-from, load-append, length-load}
 use Rattle.tape.specs.Forest.{Forest, none, leaf, node, size, flat, depth, Fits, Formed}
 use Rattle.tape.specs.ForestLaws.{length-flat}
 use Rattle.tape.specs.Nest.{isLeaf, isContainer, trees}
-use Rattle.tape.specs.NestLaws.{Ends, container-ends, trees-none, trees-one, past-container, past-leaf}
+use Rattle.tape.specs.NestLaws.{Ends, ends-container, trees-none, trees-cases, past-container, past-leaf}
 use Rattle.tape.specs.WellNested.{Split}
 use Rattle.tape.specs.declared.Content.{Content}
 use Rattle.tape.specs.declared.Record.{Record}
@@ -83,26 +84,13 @@ split-node t d at end below deep holding ends inner after =
 split-one : (t : List ℕ) (d at end : ℕ) → at < end → trees t d at end ≡ true
     → ((e past stop : ℕ) → at < past → stop ≤ end → trees t e past stop ≡ true → Split t e past stop)
     → Split t d at end
-split-one t d at end below yes′ behind = go (holds (shapeOf r)) refl (sym (trees-one t d at end below) ∙ yes′)
-  where
-    r : Record
-    r = recordAt t at
-
-    children : Bool
-    children = isContainer r at end && (trees t (d - 1) (at + 1) (r .past .0) && trees t d (r .past .0) end)
-
-    go : (b : Bool) → holds (shapeOf r) ≡ b → cond b (leb 1 d && children) (isLeaf r && trees t d (at + 1) end) ≡ true → Split t d at end
-    go false alone h =
-        let x = both (isLeaf r) (trees t d (at + 1) end) h in
-        split-leaf t d at end below alone (x .0) (behind d (at + 1) end (omega arith) (omega arith) (x .1))
-    go true holding h =
-        let x = both (leb 1 d) children h in
-        let y = both (isContainer r at end) _ (x .1) in
-        let z = both (trees t (d - 1) (at + 1) (r .past .0)) (trees t d (r .past .0) end) (y .1) in
-        let e : Ends r at end = container-ends r at end (y .0) in
-        split-node t d at end below (leb-true 1 d (x .0)) holding e
-        (behind (d - 1) (at + 1) (r .past .0) (omega arith) (e .inside) (z .0))
-        (behind d (r .past .0) end (omega (arith, e .after)) (omega arith) (z .1))
+split-one t d at end below yes′ behind =
+    ⊎-elim
+    (λ x. split-leaf t d at end below (x .alone) (x .empty) (behind d (at + 1) end (omega arith) (omega arith) (x .after)))
+    (λ x. split-node t d at end below (x .deep) (x .holding) (x .ends)
+    (behind (d - 1) (at + 1) (recordAt t at .past .0) (omega arith) (x .ends .inside) (x .inner))
+    (behind d (recordAt t at .past .0) end (omega (arith, x .ends .after)) (omega arith) (x .after)))
+    (trees-cases t d at end below yes′)
 
 splits : (n : ℕ) (t : List ℕ) (d at end : ℕ) → end ≤ at + n → trees t d at end ≡ true → Split t d at end
 splits zero t d at end bound yes′ = split-none t d at end (omega arith)
@@ -133,11 +121,7 @@ both-held t at n m rs ss count held =
       sym (drop-at front back n (length-load n t at)) ∙ ap (drop n) same ∙ drop-at rs ss n count,
     )
 
--- a container's record is one
-container-made : (m : Content) (at past end : ℕ) → at + 1 ≤ past → past ≤ end → isContainer (containerRecord m (at + 1) past) at end ≡ true
-container-made m at past end after inside = rw (eq-eqb (at + 1) (at + 1) refl, le-leb (at + 1) past after, le-leb past end inside) refl
-
--- a record made of a mark has the mark's shape
+-- a record has the shape of what it is made of
 kind-made : {kind : Bool} (m : Content) (first past : ℕ) {r : Record} → Fits kind m → r ≡ containerRecord m first past → holds (shapeOf r) ≡ kind
 kind-made m first past fits made = ap (λ (x : Record). holds (shapeOf x)) made ∙ ap holds (shape-made m first past (fits .label) (fits .shape)) ∙ fits .kind
 
@@ -160,7 +144,7 @@ trees-flat (node m k f) t d at held shallow formed =
     let ends : recordAt t at .past .0 ≡ past = ap (λ (r : Record). r .past .0) made in
     let y = both-held t (at + 1) (size k) (size f) (flat (at + 1) k) (flat past f) (length-flat k (at + 1)) (x .1 ∙ ap (λ (n : ℕ). flat n k ++ flat (n + size k) f) next) in
     let end : ℕ = at + suc (size k + size f) in
-    let fits : isContainer (recordAt t at) at end ≡ true = ap (λ (r : Record). isContainer r at end) made ∙ container-made m at past end (omega arith) (omega arith) in
+    let fits : isContainer (recordAt t at) at end ≡ true = ap (λ (r : Record). isContainer r at end) made ∙ ends-container (containerRecord m (at + 1) past) at end refl (omega arith) (omega arith) in
     let inner : trees t (d - 1) (at + 1) past ≡ true = trees-flat k t (d - 1) (at + 1) (y .0) (omega arith) (formed .1 .0) in
     let after : trees t d past (past + size f) ≡ true = trees-flat f t d past (y .1) (omega arith) (formed .1 .1) in
     sym (past-container t d at end (omega arith) (kind-made m (at + 1) past (formed .0) made) (omega arith) fits (ap (trees t (d - 1) (at + 1)) ends ∙ inner))
