@@ -42,6 +42,7 @@ end-by-++ mark (x ∷ xs) ys = ap (λ (b : Bool). leb (x .past .0) mark && b) (e
 
 -- the turns of its loop, from the last record kept to the first
 module _ (t : List ℕ) (mark left : ℕ) (more : 0 < left) where
+  -- the last record that is left, and those before it
   end-last : endBy mark (load t 0 left) ≡ (endBy mark (load t 0 (left - 1)) && (leb (recordAt t (left - 1) .past .0) mark && true))
   unfolding endBy load
   end-last =
@@ -64,7 +65,7 @@ end-none t mark left none =
     let count : left ≡ 0 = omega arith in
     rw count refl
 
--- it is judged on every record kept
+-- it is judged on every record kept: where it holds, each record keeps it
 pub end-by-each : (n : ℕ) (t : List ℕ) (mark at : ℕ) → endBy mark (load t at n) ≡ true → (i : ℕ) → at ≤ i → i < at + n → recordAt t i .past .0 ≤ mark
 unfolding endBy load
 end-by-each zero t mark at kept i from below = absurd (omega arith)
@@ -78,6 +79,7 @@ end-by-each (suc n) t mark at kept i from below =
         rw same here
     go (no later) here behind = behind (omega arith)
 
+-- and it holds where each record keeps it
 pub each-end-by : (n : ℕ) (t : List ℕ) (mark at : ℕ) → ((i : ℕ) → at ≤ i → i < at + n → recordAt t i .past .0 ≤ mark) → endBy mark (load t at n) ≡ true
 unfolding endBy load
 each-end-by zero t mark at ends = refl

@@ -35,6 +35,7 @@ depth-⧺ none g = omega arith
 depth-⧺ (leaf m f) g = depth-⧺ f g
 depth-⧺ (node m k f) g = omega (arith, depth-⧺ f g)
 
+-- two forests that are formed
 pub formed-⧺ : (f g : Forest) → Formed f → Formed g → Formed (f ⧺ g)
 unfolding Formed _⧺_
 formed-⧺ none g x y = y
@@ -43,12 +44,14 @@ formed-⧺ (node m k f) g x y = (x .0, (x .1 .0, formed-⧺ f g (x .1 .1) y))
 
 -- flat
 
+-- as many records as the forest has
 pub length-flat : (f : Forest) (at : ℕ) → length (flat at f) ≡ size f
 unfolding flat
 length-flat none at = refl
 length-flat (leaf m f) at = ap suc (length-flat f (suc at))
 length-flat (node m k f) at = rw (length-append (flat (suc at) k) (flat (suc at + size k) f), length-flat k (suc at), length-flat f (suc at + size k)) refl
 
+-- the records of two forests, one after the other
 pub flat-⧺ : (f g : Forest) (at : ℕ) → flat at (f ⧺ g) ≡ flat at f ++ flat (at + size f) g
 unfolding _⧺_ flat
 flat-⧺ none g at = rw add-zero

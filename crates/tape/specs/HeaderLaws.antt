@@ -11,8 +11,7 @@ use lib.Seq.{getD-set-same, getD-set-other}
 use Rattle.tape.specs.Both.{both}
 use Rattle.tape.specs.Tape.{InOrder, used, headed, withUsed, cleared}
 
--- headed is the test of InOrder
-
+-- headed says yes only where the header is in order
 pub headed-in-order : (t : List ℕ) → headed t ≡ true → InOrder t
 unfolding headed
 headed-in-order t h =
@@ -28,6 +27,7 @@ headed-in-order t h =
       fits = leb-true _ _ (d .1);
     }
 
+-- and it says yes there
 pub in-order-headed : (t : List ℕ) → InOrder t → headed t ≡ true
 unfolding headed
 in-order-headed t x =

@@ -16,6 +16,7 @@ use Rattle.tape.specs.declared.Record.{Record}
 
 -- recordAt
 
+-- a word of those that were set
 getD-in : (vs l : List ℕ) (i k : ℕ) → i + length vs ≤ length l → k < length vs → getD (sets l i vs) (i + k) 0 ≡ getD vs k 0
 getD-in [] l i k fits inside = absurd (omega arith)
 getD-in (v ∷ vs) l i zero fits inside = rw add-zero (getD-sets vs (set l i v) (suc i) i (inl (omega arith)) ∙ getD-set-same l i v 0 (omega arith))
@@ -61,6 +62,7 @@ record-store rs t at i (inr after) = record-same (store t at rs) t i (λ k below
 
 -- load
 
+-- as many as were asked for
 pub length-load : (n : ℕ) (t : List ℕ) (at : ℕ) → length (load t at n) ≡ n
 unfolding load
 length-load zero t at = refl

@@ -19,6 +19,7 @@ pub record Ends (r : Record) (at end : ℕ) : Type 0 where
   pub after : at + 1 ≤ r .past .0
   pub inside : r .past .0 ≤ end
 
+-- a container's do
 pub container-ends : (r : Record) (at end : ℕ) → isContainer r at end ≡ true → Ends r at end
 container-ends r at end h =
     let a = both (eqb (r .first .0) (at + 1)) _ h in
@@ -139,6 +140,7 @@ pub record AsContainer (t : List ℕ) (d at end : ℕ) : Type 0 where
   pub inner : trees t (d - 1) (at + 1) (recordAt t at .past .0) ≡ true
   pub after : trees t d (recordAt t at .past .0) end ≡ true
 
+-- it is one or the other
 pub trees-cases : (t : List ℕ) (d at end : ℕ) → at < end → trees t d at end ≡ true → AsLeaf t d at end ⊎ AsContainer t d at end
 trees-cases t d at end below yes′ = go (holds (shapeOf r)) refl (sym (trees-one t d at end below) ∙ yes′)
   where

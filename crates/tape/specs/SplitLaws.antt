@@ -26,6 +26,7 @@ use Rattle.tape.specs.declared.Record.{Record}
 
 -- the nest test says yes only where there is such a forest
 
+-- a forest has as many records as it is held in
 pub size-held : (t : List ℕ) (at n : ℕ) (f : Forest) → load t at n ≡ flat at f → n ≡ size f
 size-held t at n f held = sym (length-load n t at) ∙ ap length held ∙ length-flat f at
 
@@ -92,6 +93,7 @@ split-one t d at end below yes′ behind =
     (behind d (recordAt t at .past .0) end (omega (arith, x .ends .after)) (omega arith) (x .after)))
     (trees-cases t d at end below yes′)
 
+-- spans of up to n records
 splits : (n : ℕ) (t : List ℕ) (d at end : ℕ) → end ≤ at + n → trees t d at end ≡ true → Split t d at end
 splits zero t d at end bound yes′ = split-none t d at end (omega arith)
 splits (suc n) t d at end bound yes′ = go (decLe end at) (λ below. split-one t d at end below yes′ (λ e past stop after inside. splits n t e past stop (omega arith)))
@@ -125,6 +127,7 @@ both-held t at n m rs ss count held =
 kind-made : {kind : Bool} (m : Content) (first past : ℕ) {r : Record} → Fits kind m → r ≡ containerRecord m first past → holds (shapeOf r) ≡ kind
 kind-made m first past fits made = ap (λ (x : Record). holds (shapeOf x)) made ∙ ap holds (shape-made m first past (fits .label) (fits .shape)) ∙ fits .kind
 
+-- a forest's records pass
 trees-flat : (f : Forest) (t : List ℕ) (d at : ℕ) → load t at (size f) ≡ flat at f → depth f ≤ d → Formed f → trees t d at (at + size f) ≡ true
 unfolding flat depth Formed
 trees-flat none t d at held shallow formed = trees-none t d at (at + 0) (omega arith)

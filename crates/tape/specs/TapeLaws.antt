@@ -80,6 +80,7 @@ unfolding store
 store-append [] ys t at = rw add-zero
 store-append (x ∷ xs) ys t at = store-append xs ys (putAt t at x) (suc at) ∙ ap (λ (n : ℕ). store (store (putAt t at x) (suc at) xs) n ys) (omega arith)
 
+-- a record put before others or after them is the same
 put-store : (rs : List Record) (t : List ℕ) (i at : ℕ) (r : Record) → i < at → store (putAt t i r) at rs ≡ putAt (store t at rs) i r
 unfolding store
 put-store [] t i at r before = refl
@@ -102,6 +103,7 @@ getD-cond : (b : Bool) (x y : List ℕ) (k : ℕ) → getD x k 0 ≡ getD y k 0 
 getD-cond true x y k e = e
 getD-cond false x y k e = refl
 
+-- a word outside a record that was put
 getD-putAt : (t : List ℕ) (at : ℕ) (r : Record) (k : ℕ) → (k < 4 + 6 * at) ⊎ (4 + 6 * at + 6 ≤ k) → getD (putAt t at r) k 0 ≡ getD t k 0
 unfolding putAt
 getD-putAt t at r k outside = getD-cond (leb (4 + 6 * at + 6) (length t)) _ t k (getD-sets (words r) t (4 + 6 * at) k outside)
