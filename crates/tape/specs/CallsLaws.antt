@@ -131,8 +131,8 @@ module _ (t : List ℕ) (at : ℕ) where
   read-0 good inside fine = rw (good, lt-ltb at (used t) inside, fine)
 
 -- word 0 of a record that is read is below 393,216
-pub words-end : 65536 * suc lastRegistry ≡ 393216
-words-end = refl
+pub word-0-limit : 65536 * suc lastRegistry ≡ 393216
+word-0-limit = refl
 
 -- two results over the C boundary that meet read's contract are equal
 pub record-unique : {meant : Reading} {one other words′ words″ : List ℕ} → GivesRecord meant one words′ → GivesRecord meant other words″ → (one ≡ other) × (words′ ≡ words″)
