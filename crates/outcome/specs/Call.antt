@@ -12,9 +12,13 @@ bare answer = record { answer = answer; covered = 0; written = 0; needed = 0 }
 abbrev pub done : Outcome
 done = bare 0
 
--- a refusal that tells its number alone (under 5 needed is told too)
+-- a refusal that tells its number alone
 abbrev pub refused : ℕ → Outcome
 refused answer = bare answer
+
+-- the refusal under 5, which tells how many records are needed
+abbrev pub noRoom : ℕ → Outcome
+noRoom needed = record { answer = 5; covered = 0; written = 0; needed = needed }
 
 -- what a call gives back, and every word or octet that was lent to it, afterwards
 pub record After : Type 0 where

@@ -1,11 +1,11 @@
 -- Laws of forests, and of the records that they become.
 use mathlib.Core.Path.{_≡_, refl, sym, ap, _∙_}
-use mathlib.Core.List.{List, _∷_, _++_, append-assoc}
+use mathlib.Core.List.{List, [], _∷_, _++_, map, append-assoc}
 use Prim.Native.Nat.{ℕ, suc, _+_, max}
-use native.Mathlib.Nat.{add-zero}
+use native.Mathlib.Nat.{add-zero, suc-add, add-right-comm}
 use native.Mathlib.Omega.{arith}
 use lib.ListN.{length, length-append}
-use Rattle.tape.specs.Record.{leafRecord, containerRecord}
+use Rattle.tape.specs.Record.{leafRecord, containerRecord, moved}
 use Rattle.tape.specs.Forest.{Forest, none, leaf, node, size, _⧺_, flat, depth, Formed}
 use Rattle.tape.specs.declared.Record.{Record}
 
@@ -60,3 +60,15 @@ flat-⧺ (node m k f) g at =
     ap (λ (l : List Record). containerRecord m (suc at) (suc at + size k) ∷ l)
     (ap (λ (l : List Record). flat (suc at) k ++ l) (flat-⧺ f g (suc at + size k) ∙ ap (λ (n : ℕ). flat (suc at + size k) f ++ flat n g) (omega arith))
     ∙ sym (append-assoc (flat (suc at) k) (flat (suc at + size k) f) (flat (at + suc (size k + size f)) g)))
+
+map-++ : (f : Record → Record) (xs ys : List Record) → map f (xs ++ ys) ≡ map f xs ++ map f ys
+map-++ f [] ys = refl
+map-++ f (x ∷ xs) ys = ap (λ (l : List Record). f x ∷ l) (map-++ f xs ys)
+
+-- the records of a forest that stands d positions further on
+pub flat-moved : (f : Forest) (at d : ℕ) → flat (at + d) f ≡ map (moved d) (flat at f)
+unfolding flat
+flat-moved none at d = refl
+flat-moved (leaf m f) at d = rw (← flat-moved f (suc at) d, suc-add)
+flat-moved (node m k f) at d =
+    rw (map-++, ← flat-moved k (suc at) d, ← flat-moved f (suc at + size k) d) (simp (suc-add, add-right-comm at d (size k)))

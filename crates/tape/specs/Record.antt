@@ -1,7 +1,7 @@
 -- A record (document 01, 'The tape'): word 0 = label + 256 x shape + 65,536 x registry, words 1, 2 first octet and one past the last, word 3 the number, words 4, 5 first child and one past the last descendant.
 use mathlib.Core.Bool.{Bool, _||_}
 use mathlib.Core.List.{List, [], _∷_}
-use Prim.Native.Nat.{ℕ, _+_, _*_, _/_, _%_}
+use Prim.Native.Nat.{ℕ, zero, suc, _+_, _*_, _/_, _%_}
 use lib.Dec.{eqb}
 use Rattle.tape.specs.declared.Content.{Content}
 use Rattle.tape.specs.declared.Record.{Record}
@@ -38,6 +38,23 @@ leafRecord m = containerRecord m 0 0
 -- a record without its positions, as its words say
 abbrev pub contentOf : Record → Content
 contentOf r = record { label = labelOf r; shape = shapeOf r; registry = registryOf r; start = r .start; end = r .end; number = r .number }
+
+-- a child's position, d further on; 0 says that there is none
+abbrev pub later : ℕ → ℕ → ℕ
+later d zero = zero
+later d (suc n) = suc n + d
+
+-- a record whose children, if it has any, stand d positions further on
+abbrev pub moved : ℕ → Record → Record
+moved d r =
+    record {
+      tag = r .tag;
+      start = r .start;
+      end = r .end;
+      number = r .number;
+      first = record { 0 = later d (r .first .0) };
+      past = record { 0 = later d (r .past .0) };
+    }
 
 -- a record of six zeros
 abbrev pub zeros : Record

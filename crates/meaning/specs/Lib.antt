@@ -1,0 +1,14 @@
+pub mod Label
+pub mod Shape
+pub mod Cut
+pub mod Field
+pub mod Table
+pub mod Frame
+pub mod Trees
+pub mod Area
+pub mod AreaCall
+pub mod Examples
+pub mod CutLaws
+pub mod FrameLaws
+pub mod Apart
+pub mod ApartLaws

@@ -1,0 +1,1 @@
+// What an area of sub-TLVs means: definitions and theorems, in specs/. No code.
