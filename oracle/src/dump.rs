@@ -15,7 +15,7 @@ pub fn dump(push: &Push) -> String {
 }
 
 /// The columns of a record after its position.
-fn columns(record: &Record) -> String {
+pub(crate) fn columns(record: &Record) -> String {
     let kind = format!("{} {} {}", record.label, record.shape, record.registry);
     let range = format!("{} {}", record.first, record.past_last);
     let children = format!("{} {}", record.first_child, record.past_children);

@@ -5,7 +5,9 @@
 
 extern crate self as packet_dissector_core;
 
+mod areas;
 pub mod batch;
+mod cases;
 mod dump;
 pub mod field;
 mod labels;
@@ -21,6 +23,8 @@ pub mod util;
 #[path = "../../docs/src/crates/packet-dissector-isis/src/sub_tlv.rs"]
 mod sub_tlv;
 
+pub use areas::{Area, areas};
+pub use cases::cases;
 pub use dump::dump;
 pub use names::{listing, name};
 pub use records::{Push, Record, push};

@@ -1,4 +1,5 @@
-//! Prints what the Rust module gives for cases on standard input.
+//! Prints what the Rust module gives: for cases on standard input, for every
+//! type's name, and for a list of cases of its own.
 
 use std::error::Error;
 use std::ffi::OsString;
@@ -11,7 +12,8 @@ use oracle::batch::{mask_cases, push_cases};
 const USAGE: &str = "\
 usage: oracle push   a batch of pushes on standard input; prints the records of each
        oracle names  prints all names
-       oracle mask   a batch of masks on standard input; prints each masked prefix";
+       oracle mask   a batch of masks on standard input; prints each masked prefix
+       oracle cases  prints the text of crates/meaning/specs/RustCases.antt";
 
 /// The end of a run: done, or a message for standard error.
 type Run = Result<(), Box<dyn Error>>;
@@ -33,6 +35,7 @@ fn run(words: &[OsString]) -> Run {
         [word] if word == "push" => print_pushes(),
         [word] if word == "names" => print_names(),
         [word] if word == "mask" => print_masks(),
+        [word] if word == "cases" => print_cases(),
         _ => Err(USAGE.into()),
     }
 }
@@ -63,6 +66,11 @@ fn print_masks() -> Run {
         writeln!(out, "{}", hex(&prefix))?;
     }
     Ok(out.flush()?)
+}
+
+/// Prints what the module gives for its own list of areas.
+fn print_cases() -> Run {
+    Ok(io::stdout().write_all(oracle::cases().as_bytes())?)
 }
 
 /// All octets of standard input.

@@ -8,7 +8,7 @@ use borrow.Author.Tests.{leb-true, le-leb}
 use lib.Dec.{leb}
 use lib.ListN.{length, getD, length-append, length-drop, List·getD-append}
 use lib.Seq.{drop-append-add, drop-length}
-use Rattle.meaning.specs.Cut.{pieces, total}
+use Rattle.meaning.specs.Cut.{piecesAfter, pieces, total}
 use Rattle.meaning.specs.CutLaws.{total-++, total-le, pieces-piece, pieces-++}
 use Rattle.meaning.specs.Frame.{whole, entryLength, entries, covered, remainder, isRange, rangeLength}
 
@@ -59,6 +59,15 @@ unfolding rangeLength
 range-fits xs = cond-le (isRange xs) (whole (5 + getD xs 4 0) xs) (length xs) (λ e. whole-fits (5 + getD xs 4 0) xs)
 
 -- covered, remainder
+
+-- an empty area has no entries
+pub entries-none : entries [] ≡ []
+unfolding entries pieces piecesAfter
+entries-none = refl
+
+pub covered-none : covered [] ≡ 0
+unfolding covered total
+covered-none = rw entries-none
 
 pub covered-le : (area : List ℕ) → covered area ≤ length area
 unfolding covered entries

@@ -12,3 +12,5 @@ pub mod CutLaws
 pub mod FrameLaws
 pub mod Apart
 pub mod ApartLaws
+pub mod Form
+pub mod FormLaws
