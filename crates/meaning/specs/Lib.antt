@@ -8,9 +8,16 @@ pub mod Trees
 pub mod Area
 pub mod AreaCall
 pub mod Examples
+pub mod RustCases
+pub mod RustExamples
 pub mod CutLaws
 pub mod FrameLaws
 pub mod Apart
 pub mod ApartLaws
 pub mod Form
 pub mod FormLaws
+pub mod Sound
+pub mod SoundLaws
+pub mod Plan
+pub mod PlanLaws
+pub mod SoundWalk

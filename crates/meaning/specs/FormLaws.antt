@@ -1,0 +1,131 @@
+-- Every complete entry of every area stands as demand 3 speaks of, and so does every area that differs in its value.
+use mathlib.Core.Path.{_≡_, refl, sym, ap, _∙_}
+use mathlib.Core.Logic.{_⊎_, inl, inr, ⊎-elim}
+use mathlib.Core.Bool.{true}
+use mathlib.Core.List.{List, [], _∷_, _++_, append-assoc, head-eq-of-cons-eq, tail-eq-of-cons-eq, nil≢cons}
+use Prim.Native.Nat.{ℕ, suc, _+_, _≤_, _<_}
+use native.Mathlib.Nat.{eq-zero-or-pos, add-assoc}
+use native.Mathlib.Omega.{arith}
+use borrow.Author.Tests.{leb-true}
+use lib.Dec.{leb}
+use lib.ListN.{length, getD, take, drop, length-append, length-drop, take-append-drop, List·getD-append}
+use lib.Seq.{length-take-le, getD-take, getD-drop, drop-drop, ext-getD, getD-append-add}
+use Rattle.meaning.specs.CutLaws.{pieces-stop, pieces-step}
+use Rattle.meaning.specs.Frame.{entryLength, entries, covered}
+use Rattle.meaning.specs.FrameLaws.{passed, entry, entry-fits, entries-none, covered-none, entries-entry, covered-entry}
+use Rattle.meaning.specs.Apart.{with}
+use Rattle.meaning.specs.Form.{Stands, Differ, Other}
+
+-- every complete entry stands so
+
+-- what stands in front of an area that has an entry there
+pub record Front (a p : List ℕ) (ps : List (List ℕ)) : Type 0 where
+  pub type : ℕ
+  pub value : List ℕ
+  pub rest : List ℕ
+  pub itself : p ≡ entry type value
+  pub later : entries rest ≡ ps
+  pub all : a ≡ entry type value ++ rest
+
+-- the octets of an entry in front
+in-front : (a : List ℕ) → 0 < entryLength a → (t : ℕ) × (v : List ℕ) × (take (entryLength a) a ≡ entry t v)
+unfolding entryLength
+in-front [] some = absurd (omega (arith, entry-fits []))
+in-front (t ∷ []) some = absurd (omega (arith, leb-true 2 1 (passed (leb 2 1) 2 some)))
+in-front (t ∷ n ∷ xs) some =
+    let e : leb (suc (suc n)) (suc (suc (length xs))) ≡ true = passed (leb (suc (suc n)) (suc (suc (length xs)))) (suc (suc n)) some in
+    let l : suc (suc n) ≤ suc (suc (length xs)) = leb-true (suc (suc n)) (suc (suc (length xs))) e in
+    (t, take n xs, rw (e, length-take-le n xs (omega arith)))
+
+front : (a p : List ℕ) (ps : List (List ℕ)) → entries a ≡ p ∷ ps → Front a p ps
+unfolding entries
+front a p ps e = ⊎-elim (λ none. absurd (nil≢cons (sym (pieces-stop entryLength entry-fits a none) ∙ e))) some (eq-zero-or-pos (entryLength a))
+  where
+    some : 0 < entryLength a → Front a p ps
+    some h =
+        let f = in-front a h in
+        let s = sym (pieces-step entryLength entry-fits a h) ∙ e in
+        record {
+          type = f .0;
+          value = f .1;
+          rest = drop (entryLength a) a;
+          itself = sym (head-eq-of-cons-eq s) ∙ f .2;
+          later = tail-eq-of-cons-eq s;
+          all = sym (take-append-drop (entryLength a) a) ∙ ap (λ (l : List ℕ). l ++ drop (entryLength a) a) (f .2);
+        }
+
+pub stands : (ps : List (List ℕ)) (area q : List ℕ) (us : List (List ℕ)) → entries area ≡ ps ++ q ∷ us → Stands area ps q us
+stands [] area q us e =
+    let f = front area q us e in
+    record { pre = []; type = f .type; value = f .value; post = f .rest; whole = covered-none; earlier = entries-none; itself = f .itself; later = f .later; all = f .all }
+stands (p ∷ ps) area q us e =
+    let f = front area p (ps ++ q ∷ us) e in
+    let g = stands ps (f .rest) q us (f .later) in
+    let first : List ℕ = entry (f .type) (f .value) in
+    let earlier′ : entries (first ++ g .pre) ≡ first ∷ entries (g .pre) = entries-entry (f .type) (f .value) (g .pre) in
+    record {
+      pre = first ++ g .pre;
+      type = g .type;
+      value = g .value;
+      post = g .post;
+      whole = covered-entry (f .type) (f .value) (g .pre) ∙ rw (length-append first (g .pre), g .whole) refl;
+      earlier = earlier′ ∙ cc (f .itself, g .earlier);
+      itself = g .itself;
+      later = g .later;
+      all = f .all ∙ ap (λ (l : List ℕ). first ++ l) (g .all) ∙ sym (append-assoc first (g .pre) (entry (g .type) (g .value) ++ g .post));
+    }
+
+-- so does every area that differs in its value
+
+-- octets x, v, y, and others of the same length that differ only inside v
+module _ (x v y b : List ℕ) (same : length (x ++ (v ++ y)) ≡ length b)
+    (outside : (k : ℕ) → (k < length x) ⊎ (length x + length v ≤ k) → getD (x ++ (v ++ y)) k 0 ≡ getD b k 0) where
+  long : length x + (length v + length y) ≡ length b
+  long = sym (length-append x (v ++ y) ∙ ap (λ (n : ℕ). length x + n) (length-append v y)) ∙ same
+
+  first : take (length x) b ≡ x
+  first =
+      let l : length (take (length x) b) ≡ length x = length-take-le (length x) b (omega (arith, long)) in
+      ext-getD 0 (take (length x) b) x l (λ i below.
+      getD-take (length x) b i 0 (omega arith) ∙ sym (outside i (inl (omega arith))) ∙ List·getD-append x (v ++ y) 0 i (omega arith))
+
+  last : drop (length v) (drop (length x) b) ≡ y
+  last =
+      let l : length (drop (length v) (drop (length x) b)) ≡ length y = omega (arith, long, length-drop (length v) (drop (length x) b), length-drop (length x) b) in
+      ext-getD 0 (drop (length v) (drop (length x) b)) y l (λ i below.
+      getD-drop (length v) (drop (length x) b) i 0
+      ∙ getD-drop (length x) b (length v + i) 0
+      ∙ sym (outside (length x + (length v + i)) (inr (omega arith)))
+      ∙ getD-append-add x (v ++ y) (length v + i) 0
+      ∙ getD-append-add v y i 0)
+
+  middle : List ℕ
+  middle = take (length v) (drop (length x) b)
+
+  length-middle : length v ≡ length middle
+  unfolding middle
+  length-middle = sym (length-take-le (length v) (drop (length x) b) (omega (arith, long, length-drop (length x) b)))
+
+  rejoined : b ≡ x ++ (middle ++ y)
+  unfolding middle
+  rejoined =
+      sym (take-append-drop (length x) b)
+      ∙ ap (λ (l : List ℕ). l ++ drop (length x) b) first
+      ∙ ap (λ (l : List ℕ). x ++ l) (sym (take-append-drop (length v) (drop (length x) b)) ∙ ap (λ (l : List ℕ). take (length v) (drop (length x) b) ++ l) last)
+
+pub differs : (pre post : List ℕ) (t : ℕ) (v a′ : List ℕ) → Differ (with pre post t v) a′ (length pre + 2) (length v) → Other a′ pre post t v
+differs pre post t v a′ d =
+    let head : List ℕ = t ∷ length v ∷ [] in
+    let x : List ℕ = pre ++ head in
+    let joined : x ++ (v ++ post) ≡ with pre post t v = append-assoc pre head (v ++ post) in
+    let place : length x ≡ length pre + 2 = length-append pre head in
+    let same : length (x ++ (v ++ post)) ≡ length a′ = ap length joined ∙ d .same-length in
+    let outside : (k : ℕ) → (k < length x) ⊎ (length x + length v ≤ k) → getD (x ++ (v ++ post)) k 0 ≡ getD a′ k 0 =
+    λ k out. ap (λ (l : List ℕ). getD l k 0) joined ∙ d .outside k (⊎-elim (λ below. inl (omega (arith, place))) (λ past. inr (omega (arith, place))) out) in
+    let w : List ℕ = middle x v post a′ same outside in
+    let length-w : length v ≡ length w = length-middle x v post a′ same outside in
+    record {
+      value = w;
+      same-length = length-w;
+      all = rejoined x v post a′ same outside ∙ append-assoc pre head (w ++ post) ∙ ap (λ (n : ℕ). pre ++ (t ∷ n ∷ (w ++ post))) length-w;
+    }
