@@ -1,10 +1,17 @@
-//! Labels and shapes: the constants of the proved library against the Rust and document 01.
+//! Labels and shapes: the constants of the proved library and the numbers of the definitions
+//! against the Rust and document 01.
 
 /// The labels of the proved library.
 const LABELS: &str = include_str!("../../crates/tape/src/label.rt");
 
 /// The shapes of the proved library.
 const SHAPES: &str = include_str!("../../crates/tape/src/shape.rt");
+
+/// The labels of the definitions.
+const LABEL_DEFINITIONS: &str = include_str!("../../crates/meaning/specs/Label.antt");
+
+/// The shapes of the definitions.
+const SHAPE_DEFINITIONS: &str = include_str!("../../crates/meaning/specs/Shape.antt");
 
 /// The Rust module, from which the names of the fields are taken.
 const SOURCE: &str = include_str!("../../docs/src/crates/packet-dissector-isis/src/sub_tlv.rs");
@@ -60,24 +67,66 @@ fn constants(text: &str, of: &str) -> Vec<(String, u64)> {
     lines.map(|line| constant(line, "    pub const ")).collect()
 }
 
+/// The names and the numbers of the lines such as `function name = 1`, in the order of the text.
+fn equations(text: &str, function: &str) -> Vec<(String, u64)> {
+    let before = format!("{function} ");
+    let lines = text.lines().filter_map(|line| line.strip_prefix(&before));
+    let equations = lines.map(|line| line.split_once(" = ").expect(line));
+    equations
+        .map(|(name, number)| (name.into(), number.parse().expect(number)))
+        .collect()
+}
+
+/// A name such as `TE_ROUTER_ID` as the definitions write it, `teRouterId`.
+fn camel_case(name: &str) -> String {
+    let mut words = name.split('_');
+    let first = words.next().expect("a name has a word").to_lowercase();
+    let others = words.map(|word| format!("{}{}", &word[..1], word[1..].to_lowercase()));
+    others.fold(first, |name, word| name + &word)
+}
+
 /// Names with their places, counted from 0.
 fn numbered<Name: Into<String>>(names: impl IntoIterator<Item = Name>) -> Vec<(String, u64)> {
     names.into_iter().map(Into::into).zip(0..).collect()
 }
 
+/// The names of all labels, in upper case and in the order of their numbers.
+fn label_names() -> Vec<String> {
+    let names = field_names().into_iter();
+    names.chain(NAMES_FROM_47.map(String::from)).collect()
+}
+
 #[test]
 fn the_labels_are_those_of_the_rust_and_of_document_01() {
-    let names = field_names()
-        .into_iter()
-        .chain(NAMES_FROM_47.map(String::from));
-    let expected = numbered(names);
+    let expected = numbered(label_names());
     assert_eq!(expected.len(), 57);
     assert_eq!(constants(LABELS, "Label"), expected);
 }
 
 #[test]
+fn the_labels_of_the_definitions_are_those_of_the_rust_and_of_document_01() {
+    let expected = numbered(label_names().iter().map(|name| camel_case(name)));
+    assert_eq!(expected.len(), 57);
+    assert_eq!(equations(LABEL_DEFINITIONS, "number"), expected);
+}
+
+#[test]
 fn the_shapes_are_those_of_document_01() {
     assert_eq!(constants(SHAPES, "Shape"), numbered(SHAPE_NAMES));
+}
+
+#[test]
+fn the_shapes_of_the_definitions_are_those_of_document_01() {
+    let expected = numbered(SHAPE_NAMES.map(camel_case));
+    let (leaves, containers) = expected.split_at(7);
+    assert_eq!(equations(SHAPE_DEFINITIONS, "shapeNumber"), leaves);
+    assert_eq!(equations(SHAPE_DEFINITIONS, "containerNumber"), containers);
+}
+
+#[test]
+fn names_of_the_definitions_are_in_camel_case() {
+    assert_eq!(camel_case("TYPE"), "type");
+    assert_eq!(camel_case("IPV4_TE_ROUTER_ID"), "ipv4TeRouterId");
 }
 
 #[test]

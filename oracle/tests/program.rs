@@ -77,6 +77,11 @@ fn names_prints_the_listing_of_names() {
 }
 
 #[test]
+fn cases_prints_the_cases() {
+    assert_prints(&["cases"], &[], &oracle::cases());
+}
+
+#[test]
 fn a_cut_off_batch_is_refused() {
     let batch = [&METRIC[..], &EMPTY[..8]].concat();
     assert_refuses(&["push"], &batch, "the batch ends inside a case");

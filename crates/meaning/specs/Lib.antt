@@ -21,3 +21,6 @@ pub mod SoundLaws
 pub mod Plan
 pub mod PlanLaws
 pub mod SoundWalk
+pub mod Unroll
+pub mod Size
+pub mod Bound

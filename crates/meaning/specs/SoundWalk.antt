@@ -10,7 +10,6 @@ use lib.ListN.{length, getD, drop}
 use Rattle.octets.specs.BigEndian.{bigEndian}
 use Rattle.registry.specs.Registry.{numberOf}
 use Rattle.registry.specs.declared.Registry.the-variants.{Srv6Sid, Unregistered}
-use Rattle.tape.specs.Both.{both}
 use Rattle.tape.specs.Limits.{lastRegistry, deepest}
 use Rattle.tape.specs.Forest.{Forest, none}
 use Rattle.meaning.specs.Label
@@ -23,7 +22,8 @@ use Rattle.meaning.specs.Trees.{one, over, raw, value, numberIn, sidTree
 use Rattle.meaning.specs.Area.{noWalk, innerWalk, walked, pushed}
 use Rattle.meaning.specs.Sound.{Sound}
 use Rattle.meaning.specs.SoundLaws.{fine-leaf, fine-node, sound-none, sound-⧺, sound-cond, sound-deeper, sound-each}
-use Rattle.meaning.specs.Plan.{isInner, isPlain, allPlain, Flat}
+use Rattle.meaning.specs.Plan.{isInner, isPlain, Every, Flat}
+use Rattle.meaning.specs.PlanLaws.{every, every-plain}
 
 -- records
 
@@ -79,19 +79,6 @@ module _ (registry : ℕ) (low : registry ≤ lastRegistry) where
   sound-array d label f at ps x = sound-over d registry low label arrayShape at (at + total ps) (each f at ps) (omega arith) (sound-each d f x ps at)
 
 -- values
-
--- what holds of each field
-abbrev Every : (Field → Type 0) → List Field → Type 0
-Every P [] = Unit {0}
-Every P (f ∷ fs) = P f × Every P fs
-
-every : (P : Field → Type 0) → ((f : Field) → P f) → (fs : List Field) → Every P fs
-every P x [] = tt
-every P x (f ∷ fs) = (x f, every P x fs)
-
-every-plain : (P : Field → Type 0) → ((f : Field) → isPlain f ≡ true → P f) → (fs : List Field) → allPlain fs ≡ true → Every P fs
-every-plain P x [] plain = tt
-every-plain P x (f ∷ fs) plain = let p = both (isPlain f) (allPlain fs) plain in (x f (p .0), every-plain P x fs (p .1))
 
 module _ (walk : Walk) (registry : ℕ) (low : registry ≤ lastRegistry) (v : List ℕ) (base : ℕ) where
   sound-plain : (f : Field) → isPlain f ≡ true → Sound 0 (fieldTrees walk registry v base f)
