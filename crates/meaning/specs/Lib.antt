@@ -24,3 +24,7 @@ pub mod SoundWalk
 pub mod Unroll
 pub mod Size
 pub mod Bound
+pub mod AreaLaws
+pub mod AreaCallLaws
+pub mod OldRecords
+pub mod OldRecordsLaws

@@ -1,0 +1,161 @@
+-- Walk and push: old records change nothing, and where there were trees, there are trees.
+use mathlib.Core.Path.{_≡_, refl, sym, ap, _∙_}
+use mathlib.Core.Logic.{_⊎_, inl, inr, ⊎-elim}
+use mathlib.Core.Bool.{Bool, true, false, _&&_, cond}
+use mathlib.Core.List.{List, [], _∷_, _++_}
+use Prim.Native.Nat.{ℕ, zero, suc, _+_, _*_, _-_, _≤_, _<_, min}
+use native.Mathlib.Decide.{decLe}
+use native.Mathlib.Omega.{arith}
+use borrow.Author.Tests.{le-leb, lt-leb, leb-true}
+use lib.Dec.{leb, eqb}
+use lib.ListN.{length, getD, take, set, length-take, length-set}
+use lib.Seq.{getD-take, ext-getD, getD-set-same, getD-set-other, take-set-lt}
+use Rattle.outcome.specs.Call.{refused, refusal, noRoom}
+use Rattle.outcome.specs.declared.Outcome.{Outcome}
+use Rattle.registry.specs.Registry.{numberOf, registryOf}
+use Rattle.registry.specs.declared.Registry.{Registry}
+use Rattle.registry.specs.declared.Registry.the-variants.{Neighbor, Prefix, RouterCapability, Binding, Srv6Sid, Unregistered}
+use Rattle.registry.specs.declared.Found.{Found}
+use Rattle.registry.specs.declared.Found.the-variants.{Known, Unknown}
+use Rattle.tape.specs.Limits.{lastRegistry, deepest}
+use Rattle.tape.specs.Tape.{used, room, headed, load}
+use Rattle.tape.specs.Forest.{Forest, size, flat}
+use Rattle.tape.specs.Nest.{nestTest}
+use Rattle.meaning.specs.Frame.{covered}
+use Rattle.meaning.specs.Trees.{Walk}
+use Rattle.meaning.specs.AreaCall.{longest, furthest, appended, shown, fitted, callIn, areaCall}
+use Rattle.meaning.specs.AreaCallLaws.{appended-used, appended-load, appended-other, appended-nests, length-appended}
+use Rattle.meaning.specs.Sound.{Sound}
+use Rattle.meaning.specs.OldRecords.{Alike, Untouched, Unmoved}
+
+-- equal headers
+
+module _ (t u : List ℕ) (alike : Alike t u) where
+  word : (k : ℕ) → k < 4 → getD t k 0 ≡ getD u k 0
+  word k small = sym (getD-take 4 t k 0 small) ∙ ap (λ (l : List ℕ). getD l k 0) (alike .header) ∙ getD-take 4 u k 0 small
+
+  shorter : min 4 (length t) ≡ min 4 (length u)
+  shorter = sym (length-take 4 t) ∙ ap length (alike .header) ∙ length-take 4 u
+
+  long : leb 4 (length t) ≡ leb 4 (length u)
+  long = go (decLe 4 (length t))
+    where
+      go : Dec (4 ≤ length t) → leb 4 (length t) ≡ leb 4 (length u)
+      go (yes is) = le-leb 4 (length t) is ∙ sym (le-leb 4 (length u) (omega (arith, shorter)))
+      go (no not) = lt-leb 4 (length t) (omega arith) ∙ sym (lt-leb 4 (length u) (omega (arith, shorter)))
+
+  same-used : used t ≡ used u
+  same-used = word 0 (omega arith)
+
+  same-headed : headed t ≡ headed u
+  unfolding headed
+  same-headed = rw (long, word 1 (omega arith), word 2 (omega arith), word 3 (omega arith), same-used, alike .space) refl
+
+  -- a refusal
+  unmoved-refused : (o : Outcome) → o .written ≡ 0 → Unmoved t u (record { outcome = o; lent = t }) (record { outcome = o; lent = u })
+  unfolding load
+  unmoved-refused o nothing =
+      record { same-outcome = refl; same-header = alike .header; same-records = rw nothing refl; untouched = λ k past outside. refl; untouched′ = λ k past outside. refl }
+
+  -- trees for which there is room
+  module _ (trees : Forest) (good : headed t ≡ true) (fits : size trees ≤ room t - used t) where
+    good′ : headed u ≡ true
+    good′ = sym same-headed ∙ good
+
+    fits′ : size trees ≤ room u - used u
+    fits′ = rw (← alike .space, ← same-used) fits
+
+    header-word : (k : ℕ) → k < 4 → getD (appended trees t) k 0 ≡ getD (appended trees u) k 0
+    header-word zero small = appended-used t trees good fits ∙ ap (λ (n : ℕ). n + size trees) same-used ∙ sym (appended-used u trees good′ fits′)
+    header-word (suc k) small =
+        appended-other t trees good fits (suc k) (omega arith) (inl (omega arith))
+        ∙ word (suc k) small
+        ∙ sym (appended-other u trees good′ fits′ (suc k) (omega arith) (inl (omega arith)))
+
+    headers : take 4 (appended trees t) ≡ take 4 (appended trees u)
+    headers =
+        ext-getD 0 (take 4 (appended trees t)) (take 4 (appended trees u))
+        (length-take 4 (appended trees t) ∙ rw (length-appended t trees, length-appended u trees) shorter ∙ sym (length-take 4 (appended trees u)))
+        (λ k below.
+        let small : k < 4 = omega (arith, length-take 4 (appended trees t)) in
+        getD-take 4 (appended trees t) k 0 small ∙ header-word k small ∙ sym (getD-take 4 (appended trees u) k 0 small))
+
+    unmoved-shown : (octets : ℕ) → Unmoved t u (shown octets trees t) (shown octets trees u)
+    unmoved-shown octets =
+        record {
+          same-outcome = refl;
+          same-header = headers;
+          same-records = appended-load t trees good fits ∙ ap (λ (p : ℕ). flat p trees) same-used ∙ sym (appended-load u trees good′ fits′);
+          untouched = λ k past outside. appended-other t trees good fits k (omega arith) outside;
+          untouched′ = λ k past outside. appended-other u trees good′ fits′ k (omega arith) outside;
+        }
+
+  unmoved-fitted : (octets : ℕ) (trees : Forest) → headed t ≡ true → Unmoved t u (fitted octets trees t) (fitted octets trees u)
+  unfolding fitted
+  unmoved-fitted octets trees good = rw (← alike .space, ← same-used) (go (leb (size trees) (room t - used t)) refl)
+    where
+      go : (b : Bool) → leb (size trees) (room t - used t) ≡ b
+          → Unmoved t u (cond b (shown octets trees t) (record { outcome = noRoom (size trees); lent = t })) (cond b (shown octets trees u) (record { outcome = noRoom (size trees); lent = u }))
+      go true fits = unmoved-shown trees good (leb-true _ _ fits) octets
+      go false less = unmoved-refused (noRoom (size trees)) refl
+
+  unmoved-in : (shows : Walk) (found : Found) (area : List ℕ) (base : ℕ) → Unmoved t u (callIn shows found area base t) (callIn shows found area base u)
+  unfolding callIn
+  unmoved-in shows Unknown area base = unmoved-refused (refused 1) refl
+  unmoved-in shows (Known registry) area base =
+      rw (← same-headed) (go (leb (length area) longest) (leb (base + length area) furthest) (headed t) refl)
+    where
+      octets : ℕ
+      octets = covered area
+
+      trees : Forest
+      trees = shows (numberOf registry) area base
+
+      go : (a b c : Bool) → headed t ≡ c
+          → Unmoved t u (cond a (cond b (cond c (fitted octets trees t) (refusal 4 t)) (refusal 3 t)) (refusal 2 t)) (cond a (cond b (cond c (fitted octets trees u) (refusal 4 u)) (refusal 3 u)) (refusal 2 u))
+      go false b c is = unmoved-refused (refused 2) refl
+      go true false c is = unmoved-refused (refused 3) refl
+      go true true false is = unmoved-refused (refused 4) refl
+      go true true true is = unmoved-fitted octets trees is
+
+-- old records change nothing
+pub unmoved : (shows : Walk) (registry : ℕ) (area : List ℕ) (base : ℕ) (t u : List ℕ) → Alike t u → Unmoved t u (areaCall shows registry area base t) (areaCall shows registry area base u)
+unmoved shows registry area base t u alike = unmoved-in t u alike shows (registryOf registry) area base
+
+-- what nests
+
+-- a registry's number is small
+number-low : (registry : Registry) → numberOf registry ≤ lastRegistry
+number-low Neighbor = omega arith
+number-low Prefix = omega arith
+number-low RouterCapability = omega arith
+number-low Binding = omega arith
+number-low Srv6Sid = omega arith
+number-low Unregistered = omega arith
+
+-- where the nest test says yes before a call that shows sound trees, it says yes of what the call leaves
+module _ (shows : Walk) (sound : (registry : ℕ) (area : List ℕ) (base : ℕ) → registry ≤ lastRegistry → Sound deepest (shows registry area base)) (t : List ℕ) (yes′ : nestTest t ≡ true) where
+  keeps-fitted : (octets : ℕ) (trees : Forest) → Sound deepest trees → headed t ≡ true → nestTest (fitted octets trees t .lent) ≡ true
+  unfolding fitted
+  keeps-fitted octets trees x good = go (leb (size trees) (room t - used t)) refl
+    where
+      go : (b : Bool) → leb (size trees) (room t - used t) ≡ b → nestTest (cond b (shown octets trees t) (record { outcome = noRoom (size trees); lent = t }) .lent) ≡ true
+      go true fits = appended-nests t trees good (leb-true _ _ fits) x yes′
+      go false less = yes′
+
+  keeps-in : (found : Found) (area : List ℕ) (base : ℕ) → nestTest (callIn shows found area base t .lent) ≡ true
+  unfolding callIn
+  keeps-in Unknown area base = yes′
+  keeps-in (Known registry) area base = go (leb (length area) longest) (leb (base + length area) furthest) (headed t) refl
+    where
+      trees : Forest
+      trees = shows (numberOf registry) area base
+
+      go : (a b c : Bool) → headed t ≡ c → nestTest (cond a (cond b (cond c (fitted (covered area) trees t) (refusal 4 t)) (refusal 3 t)) (refusal 2 t) .lent) ≡ true
+      go false b c is = yes′
+      go true false c is = yes′
+      go true true false is = yes′
+      go true true true is = keeps-fitted (covered area) trees (sound (numberOf registry) area base (number-low registry)) is
+
+  pub call-keeps : (registry : ℕ) (area : List ℕ) (base : ℕ) → nestTest (areaCall shows registry area base t .lent) ≡ true
+  call-keeps registry area base = keeps-in (registryOf registry) area base
