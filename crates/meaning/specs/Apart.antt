@@ -1,6 +1,6 @@
 -- Demand 3, of the definition: one entry cannot speak for another.
 use mathlib.Core.Path.{_≡_}
-use mathlib.Core.List.{List, [], _∷_, _++_, map}
+use mathlib.Core.List.{List, _∷_, _++_, map}
 use Prim.Native.Nat.{ℕ, suc, _+_}
 use lib.ListN.{length}
 use Rattle.tape.specs.Record.{containerRecord, moved}

@@ -1,24 +1,24 @@
 -- Demand 3 holds of walk and push, by any reading and any walk of inner areas; and nothing escapes it.
 use mathlib.Core.Path.{_≡_, refl, sym, ap, _∙_}
-use mathlib.Core.List.{List, [], _∷_, _++_, map, append-nil}
+use mathlib.Core.List.{List, [], _∷_, _++_, append-nil}
 use Prim.Native.Nat.{ℕ, suc, _+_, _<_}
 use native.Mathlib.Nat.{add-assoc}
 use native.Mathlib.Omega.{arith}
 use lib.ListN.{length, length-append}
-use Rattle.tape.specs.Record.{containerRecord, moved}
-use Rattle.tape.specs.Forest.{Forest, none, size, _⧺_, flat}
-use Rattle.tape.specs.ForestLaws.{size-⧺, length-flat, flat-⧺, flat-moved}
+use Rattle.tape.specs.Record.{containerRecord}
+use Rattle.tape.specs.Forest.{Forest, size, _⧺_, flat}
+use Rattle.tape.specs.ForestLaws.{length-flat, flat-⧺, flat-moved}
 use Rattle.tape.specs.declared.Record.{Record}
 use Rattle.meaning.specs.Label
 use Rattle.meaning.specs.Label.{number}
 use Rattle.meaning.specs.Shape.{array, containerNumber}
 use Rattle.meaning.specs.Cut.{total, each}
-use Rattle.meaning.specs.CutLaws.{each-++, total-++}
+use Rattle.meaning.specs.CutLaws.{each-++}
 use Rattle.meaning.specs.Frame.{entries, covered, remainder}
 use Rattle.meaning.specs.FrameLaws.{entry, entries-++, covered-++, remainder-++, entries-entry, covered-entry, remainder-entry}
 use Rattle.meaning.specs.Field.{Plan}
 use Rattle.meaning.specs.Trees.{Walk, content, raw, arrayOf, entryTrees, walkTrees}
-use Rattle.meaning.specs.Apart.{Ending, leave, show, ending, shownBy, with, all, before, own, after, parts, Apart}
+use Rattle.meaning.specs.Apart.{Ending, leave, show, ending, with, all, before, own, after, parts, Apart}
 
 -- the framing of an area with an entry between pre and post
 

@@ -1,8 +1,6 @@
 -- What a walk and a push show of an area, by a reading of its values.
-use mathlib.Core.List.{List}
-use Prim.Native.Nat.{ℕ, _+_}
-use Rattle.tape.specs.Forest.{Forest, none, size, _⧺_, flat}
-use Rattle.tape.specs.declared.Record.{Record}
+use Prim.Native.Nat.{_+_}
+use Rattle.tape.specs.Forest.{none, _⧺_}
 use Rattle.meaning.specs.Frame.{covered, remainder}
 use Rattle.meaning.specs.Field.{Plan}
 use Rattle.meaning.specs.Trees.{Walk, raw, walkTrees}

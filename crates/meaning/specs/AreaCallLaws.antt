@@ -1,25 +1,22 @@
 -- The calls walk and push, case by case; what they leave nests; old records change nothing.
-use mathlib.Core.Path.{_≡_, refl, sym, ap, _∙_}
-use mathlib.Core.Logic.{_⊎_, inl, inr, ⊎-elim}
-use mathlib.Core.Bool.{Bool, true, false, _&&_, cond}
-use mathlib.Core.List.{List, [], _∷_, _++_}
-use Prim.Native.Nat.{ℕ, zero, suc, _+_, _*_, _-_, _≤_, _<_, min}
-use native.Mathlib.Decide.{decLe}
+use mathlib.Core.Path.{_≡_, refl, _∙_}
+use mathlib.Core.Logic.{_⊎_}
+use mathlib.Core.Bool.{true, false}
+use mathlib.Core.List.{List}
+use Prim.Native.Nat.{ℕ, _+_, _*_, _-_, _≤_, _<_}
 use native.Mathlib.Omega.{arith}
-use borrow.Author.Tests.{le-leb, lt-leb, leb-true}
-use lib.Dec.{leb, eqb}
-use lib.ListN.{length, getD, take, set, length-take, length-set}
-use lib.Seq.{getD-take, getD-set-same, getD-set-other, take-set-lt}
-use Rattle.outcome.specs.Call.{After, refusal, noRoom}
-use Rattle.registry.specs.Registry.{numberOf, registryOf}
+use borrow.Author.Tests.{le-leb, lt-leb}
+use lib.ListN.{length, getD, length-set}
+use lib.Seq.{getD-set-other}
+use Rattle.outcome.specs.Call.{refusal, noRoom}
+use Rattle.registry.specs.Registry.{numberOf}
 use Rattle.registry.specs.RegistryLaws.{registryOf-number, registryOf-past}
 use Rattle.registry.specs.declared.Registry.{Registry}
-use Rattle.registry.specs.declared.Found.{Found}
-use Rattle.registry.specs.declared.Found.the-variants.{Known, Unknown}
-use Rattle.tape.specs.Limits.{lastRegistry, deepest}
-use Rattle.tape.specs.Tape.{InOrder, used, room, headed, withUsed, load, store}
+use Rattle.registry.specs.declared.Found.the-variants.{Known}
+use Rattle.tape.specs.Limits.{deepest}
+use Rattle.tape.specs.Tape.{used, room, headed, withUsed, load, store}
 use Rattle.tape.specs.TapeLaws.{length-store}
-use Rattle.tape.specs.HeaderLaws.{headed-in-order, used-inside}
+use Rattle.tape.specs.HeaderLaws.{headed-in-order}
 use Rattle.tape.specs.Forest.{Forest, size, flat}
 use Rattle.tape.specs.Laid.{Laid}
 use Rattle.tape.specs.LaidLaws.{laid-length, laid-load, laid-other}

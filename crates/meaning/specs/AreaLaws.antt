@@ -1,12 +1,10 @@
 -- Laws of walk and push: positions, and what a push shows beside the walk.
 use mathlib.Core.Path.{_≡_, refl, sym, ap, _∙_}
-use mathlib.Core.List.{List, [], _∷_, _++_, map}
+use mathlib.Core.List.{List, [], _∷_, _++_}
 use Prim.Native.Nat.{ℕ, _+_, _<_}
-use native.Mathlib.Nat.{add-assoc}
 use native.Mathlib.Omega.{arith}
 use lib.ListN.{length}
-use Rattle.tape.specs.Record.{moved}
-use Rattle.tape.specs.Forest.{Forest, none, size, _⧺_, flat}
+use Rattle.tape.specs.Forest.{Forest, size, _⧺_, flat}
 use Rattle.tape.specs.ForestLaws.{⧺-none, flat-⧺}
 use Rattle.tape.specs.declared.Record.{Record}
 use Rattle.meaning.specs.Label

@@ -1,13 +1,13 @@
 -- Laws of cutting.
-use mathlib.Core.Path.{_≡_, refl, sym, ap, _∙_}
+use mathlib.Core.Path.{_≡_, refl, _∙_}
 use mathlib.Core.List.{List, [], _∷_, _++_}
 use Prim.Native.Nat.{ℕ, zero, suc, pred, _+_, _≤_, _<_}
 use native.Mathlib.Nat.{add-zero, add-assoc}
 use native.Mathlib.Omega.{arith}
 use lib.ListN.{length, take, drop, length-take, length-drop}
 use lib.Seq.{take-append-le, take-append-seam, drop-append-le, drop-append-seam}
-use Rattle.tape.specs.Forest.{Forest, none, size, _⧺_}
-use Rattle.tape.specs.ForestLaws.{⧺-assoc, size-⧺}
+use Rattle.tape.specs.Forest.{Forest, none, _⧺_}
+use Rattle.tape.specs.ForestLaws.{⧺-assoc}
 use Rattle.meaning.specs.Cut.{Measure, inFront, piecesAfter, pieces, total, each}
 
 -- each

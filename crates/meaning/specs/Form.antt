@@ -6,7 +6,9 @@ use Prim.Native.Nat.{ℕ, _+_, _≤_, _<_}
 use lib.ListN.{length, getD}
 use Rattle.meaning.specs.Frame.{entries, covered}
 use Rattle.meaning.specs.FrameLaws.{entry}
-use Rattle.meaning.specs.Apart.{with}
+use Rattle.meaning.specs.Field.{Plan}
+use Rattle.meaning.specs.Trees.{Walk}
+use Rattle.meaning.specs.Apart.{Ending, with, Apart}
 
 -- the entry q of an area stands between a part that is covered whole, with the entries ps, and the rest, with the entries us
 pub record Stands (area : List ℕ) (ps : List (List ℕ)) (q : List ℕ) (us : List (List ℕ)) : Type 0 where
@@ -30,3 +32,9 @@ pub record Other (a′ pre post : List ℕ) (t : ℕ) (v : List ℕ) : Type 0 wh
   pub value : List ℕ
   pub same-length : length v ≡ length value
   pub all : a′ ≡ with pre post t value
+
+-- two areas, shown from position `at` on, are such areas, and demand 3 holds of them
+pub record OneEntry (e : Ending) (plan : Plan) (walk : Walk) (registry base at : ℕ) (a a′ : List ℕ) (ps : List (List ℕ)) (q : List ℕ) (us : List (List ℕ)) : Type 0 where
+  pub stands : Stands a ps q us
+  pub other : Other a′ (stands .pre) (stands .post) (stands .type) (stands .value)
+  pub apart : Apart e plan walk registry base at (stands .pre) (stands .post) (stands .type) (stands .value) (other .value)

@@ -3,18 +3,22 @@ use mathlib.Core.Path.{_≡_, refl, sym, ap, _∙_}
 use mathlib.Core.Logic.{_⊎_, inl, inr, ⊎-elim}
 use mathlib.Core.Bool.{true}
 use mathlib.Core.List.{List, [], _∷_, _++_, append-assoc, head-eq-of-cons-eq, tail-eq-of-cons-eq, nil≢cons}
-use Prim.Native.Nat.{ℕ, suc, _+_, _≤_, _<_}
-use native.Mathlib.Nat.{eq-zero-or-pos, add-assoc}
+use Prim.Native.Nat.{ℕ, suc, _+_, _-_, _≤_, _<_}
+use native.Mathlib.Nat.{eq-zero-or-pos}
 use native.Mathlib.Omega.{arith}
 use borrow.Author.Tests.{leb-true}
 use lib.Dec.{leb}
 use lib.ListN.{length, getD, take, drop, length-append, length-drop, take-append-drop, List·getD-append}
-use lib.Seq.{length-take-le, getD-take, getD-drop, drop-drop, ext-getD, getD-append-add}
+use lib.Seq.{length-take-le, getD-take, getD-drop, ext-getD, getD-append-add}
+use Rattle.meaning.specs.Cut.{total}
 use Rattle.meaning.specs.CutLaws.{pieces-stop, pieces-step}
 use Rattle.meaning.specs.Frame.{entryLength, entries, covered}
 use Rattle.meaning.specs.FrameLaws.{passed, entry, entry-fits, entries-none, covered-none, entries-entry, covered-entry}
-use Rattle.meaning.specs.Apart.{with}
-use Rattle.meaning.specs.Form.{Stands, Differ, Other}
+use Rattle.meaning.specs.Field.{Plan}
+use Rattle.meaning.specs.Trees.{Walk}
+use Rattle.meaning.specs.Apart.{Ending, with}
+use Rattle.meaning.specs.ApartLaws.{apart}
+use Rattle.meaning.specs.Form.{Stands, Differ, Other, OneEntry}
 
 -- every complete entry stands so
 
@@ -129,3 +133,20 @@ differs pre post t v a′ d =
       same-length = length-w;
       all = rejoined x v post a′ same outside ∙ append-assoc pre head (w ++ post) ∙ ap (λ (n : ℕ). pre ++ (t ∷ n ∷ (w ++ post))) length-w;
     }
+
+-- demand 3, whichever complete entry of whichever area it is, and whatever stands in its value
+
+-- where the entry's value lies
+value-place : (area : List ℕ) (ps : List (List ℕ)) (q : List ℕ) (us : List (List ℕ)) (s : Stands area ps q us) → (length (s .pre) + 2 ≡ total ps + 2) × (length (s .value) ≡ length q - 2)
+unfolding covered
+value-place area ps q us s =
+    (ap (λ (n : ℕ). n + 2) (sym (s .whole) ∙ ap total (s .earlier)), omega (arith, ap length (s .itself)))
+
+pub one-entry : (e : Ending) (plan : Plan) (walk : Walk) (registry base at : ℕ) (a a′ : List ℕ) (ps : List (List ℕ)) (q : List ℕ) (us : List (List ℕ))
+    → entries a ≡ ps ++ q ∷ us → Differ a a′ (total ps + 2) (length q - 2) → OneEntry e plan walk registry base at a a′ ps q us
+one-entry e plan walk registry base at a a′ ps q us found d =
+    let s : Stands a ps q us = stands ps a q us found in
+    let place = value-place a ps q us s in
+    let d′ : Differ (with (s .pre) (s .post) (s .type) (s .value)) a′ (length (s .pre) + 2) (length (s .value)) = rw (← s .all, place .0, place .1) d in
+    let other : Other a′ (s .pre) (s .post) (s .type) (s .value) = differs (s .pre) (s .post) (s .type) (s .value) a′ d′ in
+    record { stands = s; other = other; apart = apart e plan walk registry base at (s .pre) (s .post) (s .type) (s .whole) (s .value) (other .value) (other .same-length) }

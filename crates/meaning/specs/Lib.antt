@@ -7,9 +7,10 @@ pub mod Frame
 pub mod Trees
 pub mod Area
 pub mod AreaCall
-pub mod Examples
+pub mod Case
+pub mod Cases
 pub mod RustCases
-pub mod RustExamples
+pub mod Examples
 pub mod CutLaws
 pub mod FrameLaws
 pub mod Apart
@@ -28,3 +29,5 @@ pub mod AreaLaws
 pub mod AreaCallLaws
 pub mod OldRecords
 pub mod OldRecordsLaws
+pub mod NestKept
+pub mod Attained

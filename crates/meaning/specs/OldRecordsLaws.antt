@@ -1,32 +1,27 @@
--- Walk and push: old records change nothing, and where there were trees, there are trees.
+-- A call that shows an area: old records change nothing.
 use mathlib.Core.Path.{_≡_, refl, sym, ap, _∙_}
-use mathlib.Core.Logic.{_⊎_, inl, inr, ⊎-elim}
-use mathlib.Core.Bool.{Bool, true, false, _&&_, cond}
-use mathlib.Core.List.{List, [], _∷_, _++_}
-use Prim.Native.Nat.{ℕ, zero, suc, _+_, _*_, _-_, _≤_, _<_, min}
+use mathlib.Core.Logic.{inl}
+use mathlib.Core.Bool.{Bool, true, false, cond}
+use mathlib.Core.List.{List}
+use Prim.Native.Nat.{ℕ, zero, suc, _+_, _-_, _≤_, _<_, min}
 use native.Mathlib.Decide.{decLe}
 use native.Mathlib.Omega.{arith}
 use borrow.Author.Tests.{le-leb, lt-leb, leb-true}
-use lib.Dec.{leb, eqb}
-use lib.ListN.{length, getD, take, set, length-take, length-set}
-use lib.Seq.{getD-take, ext-getD, getD-set-same, getD-set-other, take-set-lt}
+use lib.Dec.{leb}
+use lib.ListN.{length, getD, take, length-take}
+use lib.Seq.{getD-take, ext-getD}
 use Rattle.outcome.specs.Call.{refused, refusal, noRoom}
 use Rattle.outcome.specs.declared.Outcome.{Outcome}
 use Rattle.registry.specs.Registry.{numberOf, registryOf}
-use Rattle.registry.specs.declared.Registry.{Registry}
-use Rattle.registry.specs.declared.Registry.the-variants.{Neighbor, Prefix, RouterCapability, Binding, Srv6Sid, Unregistered}
 use Rattle.registry.specs.declared.Found.{Found}
 use Rattle.registry.specs.declared.Found.the-variants.{Known, Unknown}
-use Rattle.tape.specs.Limits.{lastRegistry, deepest}
 use Rattle.tape.specs.Tape.{used, room, headed, load}
 use Rattle.tape.specs.Forest.{Forest, size, flat}
-use Rattle.tape.specs.Nest.{nestTest}
 use Rattle.meaning.specs.Frame.{covered}
 use Rattle.meaning.specs.Trees.{Walk}
 use Rattle.meaning.specs.AreaCall.{longest, furthest, appended, shown, fitted, callIn, areaCall}
-use Rattle.meaning.specs.AreaCallLaws.{appended-used, appended-load, appended-other, appended-nests, length-appended}
-use Rattle.meaning.specs.Sound.{Sound}
-use Rattle.meaning.specs.OldRecords.{Alike, Untouched, Unmoved}
+use Rattle.meaning.specs.AreaCallLaws.{appended-used, appended-load, appended-other, length-appended}
+use Rattle.meaning.specs.OldRecords.{Alike, Unmoved}
 
 -- equal headers
 
@@ -121,41 +116,3 @@ module _ (t u : List ℕ) (alike : Alike t u) where
 -- old records change nothing
 pub unmoved : (shows : Walk) (registry : ℕ) (area : List ℕ) (base : ℕ) (t u : List ℕ) → Alike t u → Unmoved t u (areaCall shows registry area base t) (areaCall shows registry area base u)
 unmoved shows registry area base t u alike = unmoved-in t u alike shows (registryOf registry) area base
-
--- what nests
-
--- a registry's number is small
-number-low : (registry : Registry) → numberOf registry ≤ lastRegistry
-number-low Neighbor = omega arith
-number-low Prefix = omega arith
-number-low RouterCapability = omega arith
-number-low Binding = omega arith
-number-low Srv6Sid = omega arith
-number-low Unregistered = omega arith
-
--- where the nest test says yes before a call that shows sound trees, it says yes of what the call leaves
-module _ (shows : Walk) (sound : (registry : ℕ) (area : List ℕ) (base : ℕ) → registry ≤ lastRegistry → Sound deepest (shows registry area base)) (t : List ℕ) (yes′ : nestTest t ≡ true) where
-  keeps-fitted : (octets : ℕ) (trees : Forest) → Sound deepest trees → headed t ≡ true → nestTest (fitted octets trees t .lent) ≡ true
-  unfolding fitted
-  keeps-fitted octets trees x good = go (leb (size trees) (room t - used t)) refl
-    where
-      go : (b : Bool) → leb (size trees) (room t - used t) ≡ b → nestTest (cond b (shown octets trees t) (record { outcome = noRoom (size trees); lent = t }) .lent) ≡ true
-      go true fits = appended-nests t trees good (leb-true _ _ fits) x yes′
-      go false less = yes′
-
-  keeps-in : (found : Found) (area : List ℕ) (base : ℕ) → nestTest (callIn shows found area base t .lent) ≡ true
-  unfolding callIn
-  keeps-in Unknown area base = yes′
-  keeps-in (Known registry) area base = go (leb (length area) longest) (leb (base + length area) furthest) (headed t) refl
-    where
-      trees : Forest
-      trees = shows (numberOf registry) area base
-
-      go : (a b c : Bool) → headed t ≡ c → nestTest (cond a (cond b (cond c (fitted (covered area) trees t) (refusal 4 t)) (refusal 3 t)) (refusal 2 t) .lent) ≡ true
-      go false b c is = yes′
-      go true false c is = yes′
-      go true true false is = yes′
-      go true true true is = keeps-fitted (covered area) trees (sound (numberOf registry) area base (number-low registry)) is
-
-  pub call-keeps : (registry : ℕ) (area : List ℕ) (base : ℕ) → nestTest (areaCall shows registry area base t .lent) ≡ true
-  call-keeps registry area base = keeps-in (registryOf registry) area base

@@ -1,6 +1,6 @@
 -- What the Rust of docs/src shows of values around each row's least length and of the special cases: pushes at base 100 (made by `oracle cases`).
 use mathlib.Core.List.{List, [], _∷_}
-use Rattle.meaning.specs.Examples.{Case, push, line}
+use Rattle.meaning.specs.Case.{line, Case, push}
 
 -- registry, area, octets covered, records (label, shape, registry, words 1 to 5)
 unfoldable pub rustCases : List Case

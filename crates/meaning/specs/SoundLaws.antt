@@ -1,7 +1,7 @@
 -- Laws of sound trees: they nest, and each of their records can be read.
-use mathlib.Core.Path.{_≡_, refl, sym, ap, _∙_}
-use mathlib.Core.Bool.{Bool, true, false, _&&_, cond}
-use mathlib.Core.List.{List, [], _∷_, _++_}
+use mathlib.Core.Path.{_≡_, refl}
+use mathlib.Core.Bool.{Bool, true, false, cond}
+use mathlib.Core.List.{List, [], _∷_}
 use Prim.Native.Nat.{ℕ, zero, suc, _+_, _*_, _≤_, _<_}
 use native.Mathlib.Omega.{arith}
 use borrow.Author.Tests.{le-leb, lt-ltb}
@@ -12,9 +12,8 @@ use Rattle.tape.specs.Limits.{lastLabel, lastShape, lastRegistry}
 use Rattle.tape.specs.Record.{holds, tagOf, labelOf, shapeOf, containerRecord}
 use Rattle.tape.specs.RecordLaws.{label-made, shape-made}
 use Rattle.tape.specs.Calls.{readable}
-use Rattle.tape.specs.Forest.{Forest, none, leaf, node, size, _⧺_, flat, depth, Fits, Formed}
+use Rattle.tape.specs.Forest.{Forest, none, leaf, node, _⧺_, depth, Fits, Formed}
 use Rattle.tape.specs.declared.Content.{Content}
-use Rattle.tape.specs.declared.Record.{Record}
 use Rattle.meaning.specs.Label.{Label, number}
 use Rattle.meaning.specs.Shape.{Shape, Container, shapeNumber, containerNumber, hasNumber}
 use Rattle.meaning.specs.Label

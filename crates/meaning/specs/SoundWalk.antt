@@ -1,8 +1,8 @@
 -- What a walk and a push show is sound, at most 4 containers deep.
 use mathlib.Core.Path.{_≡_, refl, sym}
-use mathlib.Core.Bool.{Bool, true, false, _||_, cond, true≢false}
+use mathlib.Core.Bool.{Bool, true, false, _||_, true≢false}
 use mathlib.Core.List.{List, [], _∷_}
-use Prim.Native.Nat.{ℕ, zero, suc, _+_, _%_, _^_, _≤_}
+use Prim.Native.Nat.{ℕ, suc, _+_, _%_, _^_, _≤_}
 use native.Mathlib.Omega.{arith}
 use borrow.Author.Tests.{eqb-true}
 use lib.Dec.{leb, eqb}
@@ -15,10 +15,10 @@ use Rattle.tape.specs.Forest.{Forest, none}
 use Rattle.meaning.specs.Label
 use Rattle.meaning.specs.Label.{Label}
 use Rattle.meaning.specs.Shape.{Shape, u8, u32, ipv6, bytes, Container, array as arrayShape, object, hasNumber}
-use Rattle.meaning.specs.Cut.{pieces, total, each}
+use Rattle.meaning.specs.Cut.{total, each}
 use Rattle.meaning.specs.Frame.{entries, covered, remainder}
 use Rattle.meaning.specs.Field.{Element, numbers, msds, ranges, Field, part, flag, sid, array, tail, push, Plan}
-use Rattle.meaning.specs.Trees.{one, over, raw, value, numberIn, sidTrees, octetsIn, startOf, elementLength, elementTrees, arrayOf, lengthAt, innerFits, inner, taken, Walk, fieldTrees, fieldsTrees, valueTrees, entryTrees, walkTrees}
+use Rattle.meaning.specs.Trees.{one, over, raw, value, numberIn, sidTrees, startOf, elementTrees, arrayOf, lengthAt, innerFits, inner, taken, Walk, fieldTrees, fieldsTrees, valueTrees, entryTrees, walkTrees}
 use Rattle.meaning.specs.Area.{noWalk, innerWalk, walked, pushed}
 use Rattle.meaning.specs.Sound.{Sound}
 use Rattle.meaning.specs.SoundLaws.{fine-leaf, fine-node, sound-none, sound-⧺, sound-cond, sound-deeper, sound-each}

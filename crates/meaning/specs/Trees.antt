@@ -1,7 +1,7 @@
 -- What fields, values, entries and areas become: trees of records. How a value is read and how an area inside a value is walked are parameters.
 use mathlib.Core.Bool.{Bool, cond}
 use mathlib.Core.List.{List, [], _∷_}
-use Prim.Native.Nat.{ℕ, _+_, _-_, _/_, _%_, _^_}
+use Prim.Native.Nat.{ℕ, _+_, _/_, _%_, _^_}
 use lib.Dec.{leb}
 use lib.ListN.{length, getD, take, drop}
 use Rattle.octets.specs.BigEndian.{bigEndian}
@@ -13,7 +13,7 @@ use Rattle.meaning.specs.Label
 use Rattle.meaning.specs.Label.{Label, number}
 use Rattle.meaning.specs.Shape.{Shape, u8, u32, ipv6, bytes, Container, array as arrayShape, object, shapeNumber, containerNumber, hasNumber}
 use Rattle.meaning.specs.Cut.{Measure, pieces, total, each}
-use Rattle.meaning.specs.Frame.{whole, entryLength, entries, covered, remainder, rangeLength}
+use Rattle.meaning.specs.Frame.{whole, entries, covered, remainder, rangeLength}
 use Rattle.meaning.specs.Field.{Span, from, first, Element, numbers, msds, ranges, Field, part, flag, sid, array, tail, push, Plan}
 
 -- records

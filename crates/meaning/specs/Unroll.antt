@@ -1,16 +1,16 @@
 -- Document 01's own recursion: a walk decodes an entry, and an entry walks again.
-use mathlib.Core.Path.{_≡_, refl, sym, ap, _∙_}
-use mathlib.Core.Bool.{Bool, true, false, cond, true≢false}
+use mathlib.Core.Path.{_≡_, refl, sym}
+use mathlib.Core.Bool.{true, true≢false}
 use mathlib.Core.List.{List, [], _∷_}
 use Prim.Native.Nat.{ℕ, _+_}
 use lib.ListN.{length, getD, drop}
 use Rattle.registry.specs.Registry.{numberOf}
 use Rattle.registry.specs.declared.Registry.the-variants.{Srv6Sid, Unregistered}
-use Rattle.tape.specs.Forest.{Forest, none, _⧺_}
+use Rattle.tape.specs.Forest.{Forest}
 use Rattle.meaning.specs.Cut.{each}
-use Rattle.meaning.specs.Frame.{entries, covered, remainder}
+use Rattle.meaning.specs.Frame.{entries}
 use Rattle.meaning.specs.Field.{Field, part, flag, sid, array, tail, push, Plan}
-use Rattle.meaning.specs.Trees.{raw, arrayOf, lengthAt, innerFits, inner, taken, Walk, fieldTrees, fieldsTrees, valueTrees, entryTrees, walkTrees}
+use Rattle.meaning.specs.Trees.{arrayOf, lengthAt, inner, Walk, fieldTrees, fieldsTrees, valueTrees, entryTrees, walkTrees}
 use Rattle.meaning.specs.Area.{noWalk, innerWalk, walked}
 use Rattle.meaning.specs.Plan.{isInner, isPlain, Every, Flat}
 use Rattle.meaning.specs.PlanLaws.{every, every-plain}

@@ -4,4 +4,3 @@ pub mod Copy
 pub mod CopyLaws
 pub mod Mask
 pub mod MaskLaws
-pub mod MaskExamples
