@@ -1,5 +1,6 @@
-//! The text of crates/meaning/specs/RustCases.antt.
+//! The text of crates/meaning/specs/Examples/RustCases.antt.
 
+use crate::LAST_REGISTRY;
 use crate::areas::{Area, areas};
 use crate::dump::columns;
 use crate::records::{Record, push};
@@ -11,17 +12,54 @@ const BASE: u32 = 100;
 const HEAD: &str = "\
 -- What the Rust of docs/src shows of values around each row's least length and of the special cases: pushes at base 100 (made by `oracle cases`).
 use mathlib.Core.List.{List, [], _∷_}
-use Rattle.meaning.specs.Case.{line, Case, push}
+use Prim.Native.Nat.{ℕ}
+use Rattle.meaning.specs.Examples.Example.{line, Case, push}
 
 -- registry, area, octets covered, records (label, shape, registry, words 1 to 5)
 unfoldable pub rustCases : List Case
 rustCases =
 ";
 
-/// The text of the file: what the module gives for every area.
+/// The text between the cases and the types.
+const MIDDLE: &str = "    []
+
+-- of each registry, the types of which a value of 44 octets is read
+unfoldable pub rustTypes : List (List ℕ)
+rustTypes =
+";
+
+/// The octets of a value that is long enough for every type.
+const LONG: u8 = 44;
+
+/// The label of a value that is not read.
+const VALUE: u8 = 2;
+
+/// The text of the file: what the module gives for every area, and which types it reads.
 pub fn cases() -> String {
     let cases: String = areas().iter().map(case).collect();
-    format!("{HEAD}{cases}    []\n")
+    let types: String = (0..=LAST_REGISTRY).map(types).collect();
+    format!("{HEAD}{cases}{MIDDLE}{types}    []\n")
+}
+
+/// The types that a registry reads.
+fn types(registry: u8) -> String {
+    let read = (0..=u8::MAX).filter(|&t| is_read(registry, t));
+    let elements: String = read.map(|t| format!("{t} ∷ ")).collect();
+    let list = if elements.is_empty() {
+        "[]".into()
+    } else {
+        format!("({elements}[])")
+    };
+    format!("    {list} ∷\n")
+}
+
+/// Whether a long value of a type is read: none of the registry's records is a `value`.
+fn is_read(registry: u8, t: u8) -> bool {
+    let area = [&[t, LONG][..], &[0; LONG as usize]].concat();
+    let records = push(registry, BASE, &area).records;
+    !records
+        .iter()
+        .any(|record| (record.label, record.registry) == (VALUE, registry))
 }
 
 /// The case of an area.

@@ -13,7 +13,7 @@ const USAGE: &str = "\
 usage: oracle push   a batch of pushes on standard input; prints the records of each
        oracle names  prints all names
        oracle mask   a batch of masks on standard input; prints each masked prefix
-       oracle cases  prints the text of crates/meaning/specs/RustCases.antt";
+       oracle cases  prints the text of crates/meaning/specs/Examples/RustCases.antt";
 
 /// The end of a run: done, or a message for standard error.
 type Run = Result<(), Box<dyn Error>>;

@@ -5,7 +5,7 @@ use std::collections::HashSet;
 use oracle::{Area, LAST_REGISTRY, areas, cases};
 
 /// The stored cases.
-const STORED: &str = include_str!("../../crates/meaning/specs/RustCases.antt");
+const STORED: &str = include_str!("../../crates/meaning/specs/Examples/RustCases.antt");
 
 /// Document 01's table, section "The registries": registry, type, least value length.
 const ROWS: [(u8, u8, usize); 39] = [

@@ -25,8 +25,8 @@ use Rattle.tape.specs.WellNestedLaws.{yes-nested, nested-yes, load-with-used, u
 use Rattle.meaning.specs.Frame.{covered}
 use Rattle.meaning.specs.Trees.{Walk}
 use Rattle.meaning.specs.AreaCall.{longest, furthest, appended, shown, fitted, callIn, areaCall}
-use Rattle.meaning.specs.Sound.{Sound}
-use Rattle.meaning.specs.SoundLaws.{sound-depth, sound-formed}
+use Rattle.meaning.specs.Theorems.Sound.{Sound}
+use Rattle.meaning.specs.Theorems.SoundLaws.{sound-depth, sound-formed}
 
 -- appended
 

@@ -14,8 +14,8 @@ use Rattle.meaning.specs.FrameLaws.{length-remainder}
 use Rattle.meaning.specs.Field.{Plan}
 use Rattle.meaning.specs.Trees.{one, raw, walkTrees}
 use Rattle.meaning.specs.Area.{innerWalk, walked, pushed}
-use Rattle.meaning.specs.Apart.{leave, show, shownBy}
-use Rattle.meaning.specs.ApartLaws.{ending-anywhere}
+use Rattle.meaning.specs.Theorems.Apart.{leave, show, shownBy}
+use Rattle.meaning.specs.Theorems.ApartLaws.{ending-anywhere}
 
 module _ (plan : Plan) (registry : ℕ) (area : List ℕ) (base : ℕ) where
   -- walk and push are of the form that demand 3 speaks of

@@ -1,6 +1,7 @@
 -- The examples hold, by computation.
 use mathlib.Core.Path.{_≡_, refl}
-use mathlib.Core.List.{List, map}
+use mathlib.Core.List.{List, [], _∷_, map}
+use Prim.Native.Nat.{ℕ}
 use Rattle.octets.specs.BigEndian.{bigEndian}
 use Rattle.octets.specs.Mask.{kept, masked}
 use Rattle.registry.specs.Registry.{registryOf}
@@ -12,9 +13,13 @@ use Rattle.meaning.specs.Table.{table, fieldsOf, usual}
 use Rattle.meaning.specs.Trees.{raw, sidTrees, sidEnd, elementTrees, arrayOf, fieldEnd, taken, fieldTrees, fieldsTrees, valueTrees, entryTrees, walkTrees}
 use Rattle.meaning.specs.Area.{innerWalk, walked, pushed}
 use Rattle.meaning.specs.AreaCall.{appended, fitted, callIn}
-use Rattle.meaning.specs.Case.{Case, given, wanted}
-use Rattle.meaning.specs.Cases.{cases, others}
-use Rattle.meaning.specs.RustCases.{rustCases}
+use Rattle.meaning.specs.Examples.Example.{Case, given, wanted, typesRead}
+use Rattle.meaning.specs.Examples.Cases.{cases, others}
+use Rattle.meaning.specs.Examples.RustCases.{rustCases, rustTypes}
+
+pub mod Example
+pub mod Cases
+pub mod RustCases
 
 -- what the definitions give is what the examples say
 abbrev pub Hold : List Case → Type 0
@@ -28,3 +33,8 @@ hold = (refl, refl, refl)
 -- document 01's cases marked [P], one statement over one list
 pub examples : Hold cases
 examples = hold .0
+
+-- the table has rows for the types that the Rust reads, and for no others
+pub types-read : map (λ (registry : ℕ). typesRead registry 0 256) (0 ∷ 1 ∷ 2 ∷ 3 ∷ 4 ∷ 5 ∷ []) ≡ rustTypes
+unfolding usual fieldsOf table rustTypes
+types-read = refl

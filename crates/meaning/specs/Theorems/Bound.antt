@@ -22,7 +22,7 @@ use Rattle.meaning.specs.FrameLaws.{passed, whole-fits, whole-is, entry-
 use Rattle.meaning.specs.Field.{Span, from, first, Element, numbers, msds, ranges, Field, part, flag, sid, array, tail, push, Plan}
 use Rattle.meaning.specs.Trees.{raw, sidTrees, sidEnd, octetsIn, startOf, elementLength, elementTrees, arrayOf, lengthAt, innerFits, inner, fieldEnd, taken, Walk, fieldTrees, fieldsTrees, valueTrees, entryTrees, walkTrees}
 use Rattle.meaning.specs.Area.{noWalk, innerWalk, walked, pushed}
-use Rattle.meaning.specs.Plan.{isPlain, need, areSparing, Spare, Sparing}
+use Rattle.meaning.specs.Theorems.Plan.{isPlain, need, areSparing, Spare, Sparing}
 
 -- pieces
 

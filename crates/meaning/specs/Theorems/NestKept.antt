@@ -23,9 +23,9 @@ use Rattle.meaning.specs.Trees.{Walk}
 use Rattle.meaning.specs.Area.{walked, pushed}
 use Rattle.meaning.specs.AreaCall.{longest, furthest, shown, fitted, callIn, areaCall, walkCall, pushCall}
 use Rattle.meaning.specs.AreaCallLaws.{appended-nests}
-use Rattle.meaning.specs.PlanLaws.{usual-flat}
-use Rattle.meaning.specs.Sound.{Sound}
-use Rattle.meaning.specs.SoundWalk.{sound-walked, sound-pushed}
+use Rattle.meaning.specs.Theorems.PlanLaws.{usual-flat}
+use Rattle.meaning.specs.Theorems.Sound.{Sound}
+use Rattle.meaning.specs.Theorems.SoundWalk.{sound-walked, sound-pushed}
 
 -- a registry's number is small
 number-low : (registry : Registry) → numberOf registry ≤ lastRegistry

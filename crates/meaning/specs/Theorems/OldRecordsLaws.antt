@@ -21,7 +21,7 @@ use Rattle.meaning.specs.Frame.{covered}
 use Rattle.meaning.specs.Trees.{Walk}
 use Rattle.meaning.specs.AreaCall.{longest, furthest, appended, shown, fitted, callIn, areaCall}
 use Rattle.meaning.specs.AreaCallLaws.{appended-used, appended-load, appended-other, length-appended}
-use Rattle.meaning.specs.OldRecords.{Alike, Unmoved}
+use Rattle.meaning.specs.Theorems.OldRecords.{Alike, Unmoved}
 
 -- equal headers
 

@@ -1,6 +1,7 @@
 -- What the Rust of docs/src shows of values around each row's least length and of the special cases: pushes at base 100 (made by `oracle cases`).
 use mathlib.Core.List.{List, [], _∷_}
-use Rattle.meaning.specs.Case.{line, Case, push}
+use Prim.Native.Nat.{ℕ}
+use Rattle.meaning.specs.Examples.Example.{line, Case, push}
 
 -- registry, area, octets covered, records (label, shape, registry, words 1 to 5)
 unfoldable pub rustCases : List Case
@@ -2367,4 +2368,15 @@ rustCases =
     line 56 0 2 113 114 91 0 0 ∷
     []
     ) ∷
+    []
+
+-- of each registry, the types of which a value of 44 octets is read
+unfoldable pub rustTypes : List (List ℕ)
+rustTypes =
+    (3 ∷ 4 ∷ 6 ∷ 8 ∷ 9 ∷ 10 ∷ 11 ∷ 12 ∷ 13 ∷ 18 ∷ 31 ∷ 32 ∷ 33 ∷ 34 ∷ 35 ∷ 36 ∷ 37 ∷ 38 ∷ 39 ∷ 43 ∷ 44 ∷ []) ∷
+    (1 ∷ 2 ∷ 3 ∷ 4 ∷ 5 ∷ 11 ∷ 12 ∷ []) ∷
+    (2 ∷ 11 ∷ 12 ∷ 19 ∷ 22 ∷ 23 ∷ 24 ∷ 25 ∷ []) ∷
+    (1 ∷ 3 ∷ []) ∷
+    (1 ∷ []) ∷
+    [] ∷
     []

@@ -1,9 +1,12 @@
 -- The form of an example.
+use mathlib.Core.Bool.{Bool, true, false}
 use mathlib.Core.List.{List, [], _∷_, _++_}
-use Prim.Native.Nat.{ℕ, _+_, _*_}
+use Prim.Native.Nat.{ℕ, zero, suc, _+_, _*_}
 use lib.ListN.{length, replicate}
 use Rattle.octets.specs.Mask.{masked}
 use Rattle.outcome.specs.Call.{After, numbersOf}
+use Rattle.meaning.specs.Field.{Field}
+use Rattle.meaning.specs.Table.{usual}
 use Rattle.meaning.specs.AreaCall.{pushCall}
 
 -- an empty tape with room for n records
@@ -48,3 +51,18 @@ wanted (done base registry area octets lines) =
     0 ∷ octets ∷ length lines ∷ length lines ∷ length lines ∷ 4 ∷ 6 ∷ 0 ∷ wordsOf lines
 wanted (refused room base registry area answer needed) = answer ∷ 0 ∷ 0 ∷ needed ∷ emptyTape room
 wanted (mask bits before after) = after
+
+-- whether there are fields
+abbrev pub some : List Field → Bool
+some [] = false
+some (f ∷ fs) = true
+
+-- a number in front of others, where a test holds
+abbrev pub also : Bool → ℕ → List ℕ → List ℕ
+also true n ns = n ∷ ns
+also false n ns = ns
+
+-- of a registry, the types among the n from t on of which a value of 44 octets is read
+abbrev pub typesRead : ℕ → ℕ → ℕ → List ℕ
+typesRead registry t zero = []
+typesRead registry t (suc n) = also (some (usual registry t (replicate 44 0))) t (typesRead registry (t + 1) n)

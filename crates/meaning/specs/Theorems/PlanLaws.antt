@@ -10,7 +10,7 @@ use lib.ListN.{length}
 use Rattle.tape.specs.Both.{both}
 use Rattle.meaning.specs.Field.{Field, Row, row}
 use Rattle.meaning.specs.Table.{table, fieldsOf, usual}
-use Rattle.meaning.specs.Plan.{isInner, isPlain, allPlain, Every, Flat, rowsFlat, areSparing, Spare, Sparing, rowsSparing}
+use Rattle.meaning.specs.Theorems.Plan.{isInner, isPlain, allPlain, Every, Flat, rowsFlat, areSparing, Spare, Sparing, rowsSparing}
 
 -- what holds of any field holds of each
 pub every : (P : Field → Type 0) → ((f : Field) → P f) → (fs : List Field) → Every P fs

@@ -8,7 +8,7 @@ use Rattle.meaning.specs.Frame.{entries, covered}
 use Rattle.meaning.specs.FrameLaws.{entry}
 use Rattle.meaning.specs.Field.{Plan}
 use Rattle.meaning.specs.Trees.{Walk}
-use Rattle.meaning.specs.Apart.{Ending, with, Apart}
+use Rattle.meaning.specs.Theorems.Apart.{Ending, with, Apart}
 
 -- the entry q of an area stands between a part that is covered whole, with the entries ps, and the rest, with the entries us
 pub record Stands (area : List ℕ) (ps : List (List ℕ)) (q : List ℕ) (us : List (List ℕ)) : Type 0 where

@@ -12,8 +12,8 @@ use Rattle.meaning.specs.Frame.{entries}
 use Rattle.meaning.specs.Field.{Field, part, flag, sid, array, tail, push, Plan}
 use Rattle.meaning.specs.Trees.{arrayOf, lengthAt, inner, Walk, fieldTrees, fieldsTrees, valueTrees, entryTrees, walkTrees}
 use Rattle.meaning.specs.Area.{noWalk, innerWalk, walked}
-use Rattle.meaning.specs.Plan.{isInner, isPlain, Every, Flat}
-use Rattle.meaning.specs.PlanLaws.{every, every-plain}
+use Rattle.meaning.specs.Theorems.Plan.{isInner, isPlain, Every, Flat}
+use Rattle.meaning.specs.Theorems.PlanLaws.{every, every-plain}
 
 -- pieces that become the same
 each-same : (f g : List ℕ → ℕ → Forest) → ((p : List ℕ) (at : ℕ) → f p at ≡ g p at) → (ps : List (List ℕ)) (at : ℕ) → each f at ps ≡ each g at ps

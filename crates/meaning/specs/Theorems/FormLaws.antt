@@ -16,9 +16,9 @@ use Rattle.meaning.specs.Frame.{entryLength, entries, covered}
 use Rattle.meaning.specs.FrameLaws.{passed, entry, entry-fits, entries-none, covered-none, entries-entry, covered-entry}
 use Rattle.meaning.specs.Field.{Plan}
 use Rattle.meaning.specs.Trees.{Walk}
-use Rattle.meaning.specs.Apart.{Ending, with}
-use Rattle.meaning.specs.ApartLaws.{apart}
-use Rattle.meaning.specs.Form.{Stands, Differ, Other, OneEntry}
+use Rattle.meaning.specs.Theorems.Apart.{Ending, with}
+use Rattle.meaning.specs.Theorems.ApartLaws.{apart}
+use Rattle.meaning.specs.Theorems.Form.{Stands, Differ, Other, OneEntry}
 
 -- every complete entry stands so
 

@@ -1,7 +1,7 @@
 -- The examples of document 01, 'Octets and what they become', and its listing.
 use mathlib.Core.List.{List, [], _∷_, _++_}
 use lib.ListN.{replicate}
-use Rattle.meaning.specs.Case.{line, Case, done, refused, mask, push}
+use Rattle.meaning.specs.Examples.Example.{line, Case, done, refused, mask, push}
 
 -- those marked [P]
 unfoldable pub cases : List Case

@@ -20,10 +20,10 @@ use Rattle.meaning.specs.Frame.{entries, covered, remainder}
 use Rattle.meaning.specs.Field.{Element, numbers, msds, ranges, Field, part, flag, sid, array, tail, push, Plan}
 use Rattle.meaning.specs.Trees.{one, over, raw, value, numberIn, sidTrees, startOf, elementTrees, arrayOf, lengthAt, innerFits, inner, taken, Walk, fieldTrees, fieldsTrees, valueTrees, entryTrees, walkTrees}
 use Rattle.meaning.specs.Area.{noWalk, innerWalk, walked, pushed}
-use Rattle.meaning.specs.Sound.{Sound}
-use Rattle.meaning.specs.SoundLaws.{fine-leaf, fine-node, sound-none, sound-⧺, sound-cond, sound-deeper, sound-each}
-use Rattle.meaning.specs.Plan.{isInner, isPlain, Every, Flat}
-use Rattle.meaning.specs.PlanLaws.{every, every-plain}
+use Rattle.meaning.specs.Theorems.Sound.{Sound}
+use Rattle.meaning.specs.Theorems.SoundLaws.{fine-leaf, fine-node, sound-none, sound-⧺, sound-cond, sound-deeper, sound-each}
+use Rattle.meaning.specs.Theorems.Plan.{isInner, isPlain, Every, Flat}
+use Rattle.meaning.specs.Theorems.PlanLaws.{every, every-plain}
 
 -- records
 

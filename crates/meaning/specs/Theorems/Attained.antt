@@ -31,7 +31,7 @@ covered-full (suc k) = omega (arith, covered-entry 0x04 (0xA0 ∷ []) (full k), 
 size-full : (walk : Walk) (k at : ℕ) → size (each (entryTrees usual walk 1) at (entries (full k))) ≡ 7 * k
 unfolding each usual fieldsOf table entryTrees valueTrees fieldsTrees fieldTrees fieldEnd taken raw _⧺_
 size-full walk zero at = rw entries-none refl
-size-full walk (suc k) at = rw (entries-entry 0x04 (0xA0 ∷ []) (full k), size-⧺) (omega (arith, size-full walk k (at + 3)))
+size-full walk (suc k) at = rw (entries-entry 0x04 (0xA0 ∷ []) (full k), size-⧺ (entryTrees usual walk 1 (entry 0x04 (0xA0 ∷ [])) at)) (omega (arith, size-full walk k (at + 3)))
 
 pub attained-walk : (k base : ℕ) → size (walked usual 1 (full (suc k)) base) ≡ 1 + 7 * length (full (suc k)) / 3
 unfolding walked walkTrees arrayOf
