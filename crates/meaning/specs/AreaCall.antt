@@ -12,7 +12,7 @@ use Rattle.tape.specs.Tape.{used, room, headed, withUsed, store}
 use Rattle.tape.specs.Forest.{Forest, size, flat}
 use Rattle.meaning.specs.Frame.{covered}
 use Rattle.meaning.specs.Table.{usual}
-use Rattle.meaning.specs.Trees.{Walk}
+use Rattle.meaning.specs.Value.{Walk}
 use Rattle.meaning.specs.Area.{walked, pushed}
 
 -- the longest area, in octets

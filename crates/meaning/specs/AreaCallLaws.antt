@@ -23,7 +23,7 @@ use Rattle.tape.specs.LaidLaws.{laid-length, laid-load, laid-other}
 use Rattle.tape.specs.Nest.{nestTest}
 use Rattle.tape.specs.WellNestedLaws.{yes-nested, nested-yes, load-with-used, used-with-used, nested-laid}
 use Rattle.meaning.specs.Frame.{covered}
-use Rattle.meaning.specs.Trees.{Walk}
+use Rattle.meaning.specs.Value.{Walk}
 use Rattle.meaning.specs.AreaCall.{longest, furthest, appended, shown, fitted, callIn, areaCall}
 use Rattle.meaning.specs.Theorems.Sound.{Sound}
 use Rattle.meaning.specs.Theorems.SoundLaws.{sound-depth, sound-formed}
@@ -81,17 +81,17 @@ module _ (shows : Walk) (registry : Registry) (area : List ℕ) (base : ℕ) (t 
   known = rw (registryOf-number registry)
 
   -- 2: area over 65,535 octets
-  pub call-2 : longest < length area → areaCall shows (numberOf registry) area base t ≡ refusal 2 t
+  pub call-2 : 65535 < length area → areaCall shows (numberOf registry) area base t ≡ refusal 2 t
   unfolding callIn
   call-2 long = known ∙ rw (lt-leb (length area) longest long)
 
-  module _ (short : length area ≤ longest) where
+  module _ (short : length area ≤ 65535) where
     -- 3: base + area length over 4,294,967,295
-    pub call-3 : furthest < base + length area → areaCall shows (numberOf registry) area base t ≡ refusal 3 t
+    pub call-3 : 4294967295 < base + length area → areaCall shows (numberOf registry) area base t ≡ refusal 3 t
     unfolding callIn
     call-3 far = known ∙ rw (le-leb (length area) longest short, lt-leb (base + length area) furthest far)
 
-    module _ (near : base + length area ≤ furthest) where
+    module _ (near : base + length area ≤ 4294967295) where
       -- 4: the header is not in order
       pub call-4 : headed t ≡ false → areaCall shows (numberOf registry) area base t ≡ refusal 4 t
       unfolding callIn

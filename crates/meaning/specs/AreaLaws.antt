@@ -12,8 +12,8 @@ use Rattle.meaning.specs.Shape.{bytes}
 use Rattle.meaning.specs.Frame.{covered, remainder}
 use Rattle.meaning.specs.FrameLaws.{length-remainder}
 use Rattle.meaning.specs.Field.{Plan}
-use Rattle.meaning.specs.Trees.{one, raw, walkTrees}
-use Rattle.meaning.specs.Area.{innerWalk, walked, pushed}
+use Rattle.meaning.specs.Tree.{one, raw}
+use Rattle.meaning.specs.Area.{walkTrees, innerWalk, walked, pushed}
 use Rattle.meaning.specs.Theorems.Apart.{leave, show, shownBy}
 use Rattle.meaning.specs.Theorems.ApartLaws.{ending-anywhere}
 

@@ -10,13 +10,15 @@ use Rattle.tape.specs.Forest.{_⧺_, flat}
 use Rattle.meaning.specs.Cut.{piecesAfter, pieces, total, each}
 use Rattle.meaning.specs.Frame.{entryLength, entries, covered, remainder, rangeLength}
 use Rattle.meaning.specs.Table.{table, fieldsOf, usual}
-use Rattle.meaning.specs.Trees.{raw, sidTrees, sidEnd, elementTrees, arrayOf, fieldEnd, taken, fieldTrees, fieldsTrees, valueTrees, entryTrees, walkTrees}
-use Rattle.meaning.specs.Area.{innerWalk, walked, pushed}
+use Rattle.meaning.specs.Tree.{raw}
+use Rattle.meaning.specs.Sid.{sidTrees, sidEnd}
+use Rattle.meaning.specs.Array.{elementTrees, arrayOf}
+use Rattle.meaning.specs.Value.{fieldEnd, taken, fieldTrees, fieldsTrees, valueTrees}
+use Rattle.meaning.specs.Area.{entryTrees, walkTrees, innerWalk, walked, pushed}
 use Rattle.meaning.specs.AreaCall.{appended, fitted, callIn}
 use Rattle.meaning.specs.Examples.Example.{Case, given, wanted, typesRead}
 use Rattle.meaning.specs.Examples.Cases.{cases, others}
 use Rattle.meaning.specs.Examples.RustCases.{rustCases, rustTypes}
-
 pub mod Example
 pub mod Cases
 pub mod RustCases

@@ -6,7 +6,11 @@ pub mod Frame
 pub mod FrameLaws
 pub mod Field
 pub mod Table
-pub mod Trees
+pub mod Tree
+pub mod Sid
+pub mod Array
+pub mod Tail
+pub mod Value
 pub mod Area
 pub mod AreaLaws
 pub mod AreaCall

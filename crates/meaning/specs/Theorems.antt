@@ -5,26 +5,21 @@ pub mod Apart
 pub mod ApartLaws
 pub mod Form
 pub mod FormLaws
-
 -- what is asked of a reading
 pub mod Plan
 pub mod PlanLaws
-
 -- every record is one that can be read, and the records nest
 pub mod Sound
 pub mod SoundLaws
 pub mod SoundWalk
 pub mod NestKept
 pub mod ReadBack
-
 -- needed records: any base, the bound, and that it is attained
 pub mod Size
 pub mod Bound
 pub mod Attained
-
 -- a walk decodes an entry, and an entry walks again
 pub mod Unroll
-
 -- old records change nothing
 pub mod OldRecords
 pub mod OldRecordsLaws

@@ -13,7 +13,9 @@ use Rattle.meaning.specs.Cut.{each}
 use Rattle.meaning.specs.Frame.{entries, covered, remainder}
 use Rattle.meaning.specs.FrameLaws.{entry}
 use Rattle.meaning.specs.Field.{Plan}
-use Rattle.meaning.specs.Trees.{Walk, content, raw, entryTrees, walkTrees}
+use Rattle.meaning.specs.Tree.{content, raw}
+use Rattle.meaning.specs.Value.{Walk}
+use Rattle.meaning.specs.Area.{entryTrees, walkTrees}
 
 -- what becomes of the remainder: a walk leaves it, a push shows it
 pub data Ending : Type 0 where

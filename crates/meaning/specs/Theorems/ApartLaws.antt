@@ -17,7 +17,10 @@ use Rattle.meaning.specs.CutLaws.{each-++}
 use Rattle.meaning.specs.Frame.{entries, covered, remainder}
 use Rattle.meaning.specs.FrameLaws.{entry, entries-++, covered-++, remainder-++, entries-entry, covered-entry, remainder-entry}
 use Rattle.meaning.specs.Field.{Plan}
-use Rattle.meaning.specs.Trees.{Walk, content, raw, arrayOf, entryTrees, walkTrees}
+use Rattle.meaning.specs.Tree.{content, raw}
+use Rattle.meaning.specs.Array.{arrayOf}
+use Rattle.meaning.specs.Value.{Walk}
+use Rattle.meaning.specs.Area.{entryTrees, walkTrees}
 use Rattle.meaning.specs.Theorems.Apart.{Ending, leave, show, ending, with, all, before, own, after, parts, Apart}
 
 -- the framing of an area with an entry between pre and post

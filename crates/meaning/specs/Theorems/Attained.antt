@@ -10,8 +10,10 @@ use Rattle.meaning.specs.Cut.{each}
 use Rattle.meaning.specs.Frame.{entries, covered}
 use Rattle.meaning.specs.FrameLaws.{entry, entries-none, covered-none, entries-entry, covered-entry, remainder-none}
 use Rattle.meaning.specs.Table.{table, fieldsOf, usual}
-use Rattle.meaning.specs.Trees.{Walk, raw, arrayOf, fieldEnd, taken, fieldTrees, fieldsTrees, valueTrees, entryTrees, walkTrees}
-use Rattle.meaning.specs.Area.{innerWalk, walked, pushed}
+use Rattle.meaning.specs.Tree.{raw}
+use Rattle.meaning.specs.Array.{arrayOf}
+use Rattle.meaning.specs.Value.{Walk, fieldEnd, taken, fieldTrees, fieldsTrees, valueTrees}
+use Rattle.meaning.specs.Area.{entryTrees, walkTrees, innerWalk, walked, pushed}
 use Rattle.meaning.specs.AreaLaws.{pushed-whole}
 
 -- k entries `04 01 A0`

@@ -20,8 +20,12 @@ use Rattle.meaning.specs.CutLaws.{pieces-ind, total-le}
 use Rattle.meaning.specs.Frame.{whole, entryLength, entries, covered, remainder, isRange, rangeLength}
 use Rattle.meaning.specs.FrameLaws.{passed, whole-fits, whole-is, entry-fits, range-fits, covered-le, length-remainder}
 use Rattle.meaning.specs.Field.{Span, from, first, Element, numbers, msds, ranges, Field, part, flag, sid, array, tail, push, Plan}
-use Rattle.meaning.specs.Trees.{raw, sidTrees, sidEnd, octetsIn, startOf, elementLength, elementTrees, arrayOf, lengthAt, innerFits, inner, fieldEnd, taken, Walk, fieldTrees, fieldsTrees, valueTrees, entryTrees, walkTrees}
-use Rattle.meaning.specs.Area.{noWalk, innerWalk, walked, pushed}
+use Rattle.meaning.specs.Tree.{raw}
+use Rattle.meaning.specs.Sid.{sidTrees, sidEnd}
+use Rattle.meaning.specs.Array.{octetsIn, startOf, elementLength, elementTrees, arrayOf}
+use Rattle.meaning.specs.Tail.{lengthAt, innerFits, inner}
+use Rattle.meaning.specs.Value.{fieldEnd, taken, Walk, fieldTrees, fieldsTrees, valueTrees}
+use Rattle.meaning.specs.Area.{entryTrees, walkTrees, noWalk, innerWalk, walked, pushed}
 use Rattle.meaning.specs.Theorems.Plan.{isPlain, need, areSparing, Spare, Sparing}
 
 -- pieces

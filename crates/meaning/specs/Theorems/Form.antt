@@ -7,7 +7,7 @@ use lib.ListN.{length, getD}
 use Rattle.meaning.specs.Frame.{entries, covered}
 use Rattle.meaning.specs.FrameLaws.{entry}
 use Rattle.meaning.specs.Field.{Plan}
-use Rattle.meaning.specs.Trees.{Walk}
+use Rattle.meaning.specs.Value.{Walk}
 use Rattle.meaning.specs.Theorems.Apart.{Ending, with, Apart}
 
 -- the entry q of an area stands between a part that is covered whole, with the entries ps, and the rest, with the entries us

@@ -15,7 +15,7 @@ use Rattle.meaning.specs.CutLaws.{pieces-stop, pieces-step}
 use Rattle.meaning.specs.Frame.{entryLength, entries, covered}
 use Rattle.meaning.specs.FrameLaws.{passed, entry, entry-fits, entries-none, covered-none, entries-entry, covered-entry}
 use Rattle.meaning.specs.Field.{Plan}
-use Rattle.meaning.specs.Trees.{Walk}
+use Rattle.meaning.specs.Value.{Walk}
 use Rattle.meaning.specs.Theorems.Apart.{Ending, with}
 use Rattle.meaning.specs.Theorems.ApartLaws.{apart}
 use Rattle.meaning.specs.Theorems.Form.{Stands, Differ, Other, OneEntry}

@@ -19,7 +19,7 @@ use Rattle.tape.specs.Forest.{Forest, size}
 use Rattle.tape.specs.Nest.{nestTest}
 use Rattle.meaning.specs.Frame.{covered}
 use Rattle.meaning.specs.Table.{usual}
-use Rattle.meaning.specs.Trees.{Walk}
+use Rattle.meaning.specs.Value.{Walk}
 use Rattle.meaning.specs.Area.{walked, pushed}
 use Rattle.meaning.specs.AreaCall.{longest, furthest, shown, fitted, callIn, areaCall, walkCall, pushCall}
 use Rattle.meaning.specs.AreaCallLaws.{appended-nests}

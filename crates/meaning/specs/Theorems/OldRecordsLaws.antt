@@ -18,7 +18,7 @@ use Rattle.registry.specs.declared.Found.the-variants.{Known, Unknown}
 use Rattle.tape.specs.Tape.{used, room, headed, load}
 use Rattle.tape.specs.Forest.{Forest, size, flat}
 use Rattle.meaning.specs.Frame.{covered}
-use Rattle.meaning.specs.Trees.{Walk}
+use Rattle.meaning.specs.Value.{Walk}
 use Rattle.meaning.specs.AreaCall.{longest, furthest, appended, shown, fitted, callIn, areaCall}
 use Rattle.meaning.specs.AreaCallLaws.{appended-used, appended-load, appended-other, length-appended}
 use Rattle.meaning.specs.Theorems.OldRecords.{Alike, Unmoved}

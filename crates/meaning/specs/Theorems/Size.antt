@@ -13,8 +13,12 @@ use Rattle.meaning.specs.Label.{Label}
 use Rattle.meaning.specs.Cut.{each}
 use Rattle.meaning.specs.Frame.{entries, covered, remainder}
 use Rattle.meaning.specs.Field.{Element, numbers, msds, ranges, Field, part, flag, sid, array, tail, push, Plan}
-use Rattle.meaning.specs.Trees.{raw, sidTrees, startOf, elementTrees, arrayOf, lengthAt, innerFits, inner, taken, Walk, fieldTrees, fieldsTrees, valueTrees, entryTrees, walkTrees}
-use Rattle.meaning.specs.Area.{noWalk, innerWalk, walked, pushed}
+use Rattle.meaning.specs.Tree.{raw}
+use Rattle.meaning.specs.Sid.{sidTrees}
+use Rattle.meaning.specs.Array.{startOf, elementTrees, arrayOf}
+use Rattle.meaning.specs.Tail.{lengthAt, innerFits, inner}
+use Rattle.meaning.specs.Value.{taken, Walk, fieldTrees, fieldsTrees, valueTrees}
+use Rattle.meaning.specs.Area.{entryTrees, walkTrees, noWalk, innerWalk, walked, pushed}
 
 -- trees of equal sizes
 

@@ -19,7 +19,7 @@ use Rattle.meaning.specs.Shape.{Shape, Container, shapeNumber, container
 use Rattle.meaning.specs.Label
 use Rattle.meaning.specs.Shape
 use Rattle.meaning.specs.Cut.{each}
-use Rattle.meaning.specs.Trees.{content}
+use Rattle.meaning.specs.Tree.{content}
 use Rattle.meaning.specs.Theorems.Sound.{Fine, Sound}
 
 -- Fine

@@ -18,8 +18,12 @@ use Rattle.meaning.specs.Shape.{Shape, u8, u32, ipv6, bytes, Container, 
 use Rattle.meaning.specs.Cut.{total, each}
 use Rattle.meaning.specs.Frame.{entries, covered, remainder}
 use Rattle.meaning.specs.Field.{Element, numbers, msds, ranges, Field, part, flag, sid, array, tail, push, Plan}
-use Rattle.meaning.specs.Trees.{one, over, raw, value, numberIn, sidTrees, startOf, elementTrees, arrayOf, lengthAt, innerFits, inner, taken, Walk, fieldTrees, fieldsTrees, valueTrees, entryTrees, walkTrees}
-use Rattle.meaning.specs.Area.{noWalk, innerWalk, walked, pushed}
+use Rattle.meaning.specs.Tree.{one, over, raw, value, numberIn}
+use Rattle.meaning.specs.Sid.{sidTrees}
+use Rattle.meaning.specs.Array.{startOf, elementTrees, arrayOf}
+use Rattle.meaning.specs.Tail.{lengthAt, innerFits, inner}
+use Rattle.meaning.specs.Value.{taken, Walk, fieldTrees, fieldsTrees, valueTrees}
+use Rattle.meaning.specs.Area.{entryTrees, walkTrees, noWalk, innerWalk, walked, pushed}
 use Rattle.meaning.specs.Theorems.Sound.{Sound}
 use Rattle.meaning.specs.Theorems.SoundLaws.{fine-leaf, fine-node, sound-none, sound-⧺, sound-cond, sound-deeper, sound-each}
 use Rattle.meaning.specs.Theorems.Plan.{isInner, isPlain, Every, Flat}

@@ -10,8 +10,10 @@ use Rattle.tape.specs.Forest.{Forest}
 use Rattle.meaning.specs.Cut.{each}
 use Rattle.meaning.specs.Frame.{entries}
 use Rattle.meaning.specs.Field.{Field, part, flag, sid, array, tail, push, Plan}
-use Rattle.meaning.specs.Trees.{arrayOf, lengthAt, inner, Walk, fieldTrees, fieldsTrees, valueTrees, entryTrees, walkTrees}
-use Rattle.meaning.specs.Area.{noWalk, innerWalk, walked}
+use Rattle.meaning.specs.Array.{arrayOf}
+use Rattle.meaning.specs.Tail.{lengthAt, inner}
+use Rattle.meaning.specs.Value.{Walk, fieldTrees, fieldsTrees, valueTrees}
+use Rattle.meaning.specs.Area.{entryTrees, walkTrees, noWalk, innerWalk, walked}
 use Rattle.meaning.specs.Theorems.Plan.{isInner, isPlain, Every, Flat}
 use Rattle.meaning.specs.Theorems.PlanLaws.{every, every-plain}
 
