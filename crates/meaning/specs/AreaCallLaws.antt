@@ -40,15 +40,15 @@ module _ (t : List ℕ) (trees : Forest) (good : headed t ≡ true) (fits : size
   inside : 4 + 6 * (used t + size trees) ≤ length t
   inside = let x = headed-in-order t good in omega (arith, x .long, x .fits)
 
-  -- and counted
-  pub appended-used : used (appended trees t) ≡ used t + size trees
-  unfolding appended
-  appended-used = used-with-used (store t (used t) (flat (used t) trees)) (used t + size trees) (rw (laid-length laid) (omega (arith, inside)))
-
   -- their records are there
   pub appended-load : load (appended trees t) (used t) (size trees) ≡ flat (used t) trees
   unfolding appended
   appended-load = load-with-used (store t (used t) (flat (used t) trees)) (used t + size trees) (used t) (size trees) ∙ laid-load laid inside
+
+  -- and counted
+  pub appended-used : used (appended trees t) ≡ used t + size trees
+  unfolding appended
+  appended-used = used-with-used (store t (used t) (flat (used t) trees)) (used t + size trees) (rw (laid-length laid) (omega (arith, inside)))
 
   -- every word but word 0 and those of the new records is as before
   pub appended-other : (k : ℕ) → 1 ≤ k → (k < 4 + 6 * used t) ⊎ (4 + 6 * (used t + size trees) ≤ k) → getD (appended trees t) k 0 ≡ getD t k 0
@@ -102,14 +102,14 @@ module _ (shows : Walk) (registry : Registry) (area : List ℕ) (base : ℕ) (t 
         unfolding callIn
         accepted = known ∙ rw (le-leb (length area) longest short, le-leb (base + length area) furthest near, good)
 
-        -- 5: needed records exceed free room
-        pub call-5 : room t - used t < size (shows (numberOf registry) area base)
-            → areaCall shows (numberOf registry) area base t ≡ record { outcome = noRoom (size (shows (numberOf registry) area base)); lent = t }
-        unfolding fitted
-        call-5 less = accepted ∙ rw (lt-leb (size (shows (numberOf registry) area base)) (room t - used t) less)
-
         -- 0: done
         pub call-0 : size (shows (numberOf registry) area base) ≤ room t - used t
             → areaCall shows (numberOf registry) area base t ≡ shown (covered area) (shows (numberOf registry) area base) t
         unfolding fitted
         call-0 fits = accepted ∙ rw (le-leb (size (shows (numberOf registry) area base)) (room t - used t) fits)
+
+        -- 5: needed records exceed free room
+        pub call-5 : room t - used t < size (shows (numberOf registry) area base)
+            → areaCall shows (numberOf registry) area base t ≡ record { outcome = noRoom (size (shows (numberOf registry) area base)); lent = t }
+        unfolding fitted
+        call-5 less = accepted ∙ rw (lt-leb (size (shows (numberOf registry) area base)) (room t - used t) less)

@@ -8,9 +8,11 @@ pub mod Field
 pub mod Table
 pub mod Tree
 pub mod Sid
+pub mod SidLaws
 pub mod Array
 pub mod Tail
 pub mod Value
+pub mod ValueLaws
 pub mod Area
 pub mod AreaLaws
 pub mod AreaCall

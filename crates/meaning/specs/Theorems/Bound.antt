@@ -3,8 +3,9 @@ use mathlib.Core.Path.{_≡_, refl, sym}
 use mathlib.Core.Bool.{Bool, true, false, cond, true≢false}
 use mathlib.Core.List.{List, [], _∷_}
 use Prim.Native.Nat.{ℕ, suc, _+_, _*_, _/_, _≤_, _<_}
+use native.Mathlib.Decide.{decLe}
 use native.Mathlib.Omega.{arith}
-use borrow.Author.Tests.{leb-true, le-leb}
+use borrow.Author.Tests.{leb-true}
 use lib.Dec.{leb}
 use lib.ListN.{length, getD, take, drop, length-take, length-drop}
 use lib.Seq.{length-take-le}
@@ -22,6 +23,7 @@ use Rattle.meaning.specs.FrameLaws.{passed, whole-fits, whole-is, entry-
 use Rattle.meaning.specs.Field.{Span, from, first, Element, numbers, msds, ranges, Field, part, flag, sid, array, tail, push, Plan}
 use Rattle.meaning.specs.Tree.{raw}
 use Rattle.meaning.specs.Sid.{sidTrees, sidEnd}
+use Rattle.meaning.specs.SidLaws.{sid-index-end, sid-label-end}
 use Rattle.meaning.specs.Array.{octetsIn, startOf, elementLength, elementTrees, arrayOf}
 use Rattle.meaning.specs.Tail.{lengthAt, innerFits, inner}
 use Rattle.meaning.specs.Value.{fieldEnd, taken, Walk, fieldTrees, fieldsTrees, valueTrees}
@@ -83,22 +85,15 @@ array-bound label registry at element xs =
 
 -- ends
 
--- a SID that is there ends after 3 or 4 octets
-sid-end : (v : List ℕ) (at : ℕ) → at + 3 ≤ length v → at + 3 ≤ sidEnd v at
-unfolding sidEnd
-sid-end v at inside = go (leb (at + 4) (length v))
+-- a SID that is there ends after 3 or 4 octets, inside
+sid-ends : (v : List ℕ) (at : ℕ) → at + 3 ≤ length v → (at + 3 ≤ sidEnd v at) × (sidEnd v at ≤ length v)
+sid-ends v at inside = go (decLe (at + 4) (length v))
   where
-    go : (b : Bool) → at + 3 ≤ cond b (at + 4) (cond (leb (at + 3) (length v)) (at + 3) at)
-    go true = omega arith
-    go false = rw (le-leb (at + 3) (length v) inside) (omega arith)
-
-sid-inside : (v : List ℕ) (at : ℕ) → at + 3 ≤ length v → sidEnd v at ≤ length v
-unfolding sidEnd
-sid-inside v at inside = go (leb (at + 4) (length v)) refl
-  where
-    go : (b : Bool) → leb (at + 4) (length v) ≡ b → cond b (at + 4) (cond (leb (at + 3) (length v)) (at + 3) at) ≤ length v
-    go true e = leb-true _ _ e
-    go false e = rw (le-leb (at + 3) (length v) inside) inside
+    go : Dec (at + 4 ≤ length v) → (at + 3 ≤ sidEnd v at) × (sidEnd v at ≤ length v)
+    go (yes long) = (omega (arith, sid-index-end v at long), omega (arith, sid-index-end v at long))
+    go (no short) =
+        let three : length v ≡ at + 3 = omega arith in
+        (omega (arith, sid-label-end v at three), omega (arith, sid-label-end v at three))
 
 span-inside : (span : Span) (v : List ℕ) → startOf span ≤ length v → startOf span + length (octetsIn span v) ≤ length v
 span-inside (from at) v inside = omega (arith, length-drop at v)
@@ -129,7 +124,7 @@ module _ (walk : Walk) (small : (registry : ℕ) (area : List ℕ) (at : ℕ) �
   unfolding fieldTrees fieldEnd
   field-bound registry v base (part label shape at width) inside = omega arith
   field-bound registry v base (flag label mask) inside = omega arith
-  field-bound registry v base (sid at) inside = omega (arith, size-sid-le Label.sid registry v base at, sid-end v at inside)
+  field-bound registry v base (sid at) inside = omega (arith, size-sid-le Label.sid registry v base at, sid-ends v at inside .0)
   field-bound registry v base (array label span element) inside = omega (arith, array-bound label registry (base + startOf span) element (octetsIn span v))
   field-bound registry v base (tail at) inside =
       rw size-⧺ (tail-bound (innerFits v at) (walk (numberOf Srv6Sid) (inner v at) (base + (lengthAt at + 1))) at (covered (inner v at)) (small (numberOf Srv6Sid) (inner v at) (base + (lengthAt at + 1))))
@@ -147,7 +142,7 @@ module _ (walk : Walk) (small : (registry : ℕ) (area : List ℕ) (at : ℕ) �
   unfolding fieldEnd
   field-inside v (part label shape at width) inside = inside
   field-inside v (flag label mask) inside = inside
-  field-inside v (sid at) inside = sid-inside v at inside
+  field-inside v (sid at) inside = sid-ends v at inside .1
   field-inside v (array label span element) inside = omega (arith, span-inside span v inside, total-le (elementLength element) (element-fits element) (octetsIn span v))
   field-inside v (tail at) inside = tail-inside v at inside
   field-inside v (push at) inside = omega arith

@@ -1,15 +1,14 @@
 -- What a walk or a push wrote, read gives back.
-use mathlib.Core.Path.{_≡_, refl, sym, ap, _∙_}
+use mathlib.Core.Path.{_≡_, _∙_}
 use mathlib.Core.Logic.{inl}
 use mathlib.Core.Bool.{true}
 use mathlib.Core.List.{List, [], _∷_, _++_}
-use Prim.Native.Nat.{ℕ, zero, suc, _+_, _*_, _-_, _≤_, _<_}
+use Prim.Native.Nat.{ℕ, zero, suc, _+_, _-_, _≤_, _<_}
 use native.Mathlib.Decide.{decLe}
 use native.Mathlib.Omega.{arith}
-use lib.ListN.{length, getD}
+use lib.ListN.{length}
 use Rattle.outcome.specs.Call.{done}
-use Rattle.tape.specs.Record.{leafRecord, containerRecord}
-use Rattle.tape.specs.Tape.{InOrder, used, room, headed, recordAt, load}
+use Rattle.tape.specs.Tape.{used, room, headed, recordAt, load}
 use Rattle.tape.specs.HeaderLaws.{headed-in-order, in-order-headed}
 use Rattle.tape.specs.Forest.{Forest, none, leaf, node, size, flat}
 use Rattle.tape.specs.Calls.{readable, readCall}
