@@ -1,4 +1,4 @@
--- The examples of document 01, 'Octets and what they become', and its listing.
+-- The examples of document 01, 'Octets and what they become', and the one of docs/MEANING.md.
 use mathlib.Core.List.{List, [], _∷_, _++_}
 use lib.ListN.{replicate}
 use Rattle.meaning.specs.Examples.Example.{line, Case, done, refused, mask, push}
@@ -183,4 +183,41 @@ others =
     []
     ) ∷
     refused 6 4294967290 0 (0x12 ∷ 0x03 ∷ 0x00 ∷ 0x00 ∷ 0x0A ∷ 0x00 ∷ []) 3 0 ∷
+    -- the area that docs/MEANING.md works out
+    push 0 (0x12 ∷ 0x03 ∷ 0x00 ∷ 0x00 ∷ 0x0A ∷ 0x1F ∷ 0x05 ∷ 0x30 ∷ 0x00 ∷ 0x00 ∷ 0x5D ∷ 0xC5 ∷ 0x21 ∷ 0x04 ∷ 0x80 ∷ 0x00 ∷ 0x03 ∷ 0xE8 ∷ 0x2B ∷ 0x1C ∷ 0x00 ∷ 0x00 ∷ 0x00 ∷ 0x00 ∷ 0x05 ∷ 0xFC ∷ 0x00 ∷ 0x00 ∷ 0x00 ∷ 0x00 ∷ 0x01 ∷ 0x00 ∷ 0x00 ∷ 0xE0 ∷ 0x01 ∷ 0x00 ∷ 0x00 ∷ 0x00 ∷ 0x00 ∷ 0x00 ∷ 0x00 ∷ 0x06 ∷ 0x01 ∷ 0x04 ∷ 0x28 ∷ 0x10 ∷ 0x10 ∷ 0x00 ∷ 0x06 ∷ 0x04 ∷ 0x0A ∷ 0x00 ∷ []) 48 (
+      line 4 7 0 100 148 0 1 32 ∷
+      line 47 8 0 100 105 0 2 5 ∷
+      line 0 0 0 100 101 18 0 0 ∷
+      line 1 0 0 101 102 3 0 0 ∷
+      line 15 2 0 102 105 10 0 0 ∷
+      line 47 8 0 105 112 0 6 11 ∷
+      line 0 0 0 105 106 31 0 0 ∷
+      line 1 0 0 106 107 5 0 0 ∷
+      line 16 0 0 107 108 48 0 0 ∷
+      line 17 0 0 108 109 0 0 0 ∷
+      line 19 2 0 109 112 24005 0 0 ∷
+      line 47 8 0 112 118 0 12 16 ∷
+      line 0 0 0 112 113 33 0 0 ∷
+      line 1 0 0 113 114 4 0 0 ∷
+      line 21 0 0 114 115 1 0 0 ∷
+      line 22 2 0 115 118 1000 0 0 ∷
+      line 47 8 0 118 148 0 17 32 ∷
+      line 0 0 0 118 119 43 0 0 ∷
+      line 1 0 0 119 120 28 0 0 ∷
+      line 16 0 0 120 121 0 0 0 ∷
+      line 18 0 0 121 122 0 0 0 ∷
+      line 17 0 0 122 123 0 0 0 ∷
+      line 28 1 0 123 125 5 0 0 ∷
+      line 29 5 0 125 141 0 0 0 ∷
+      line 4 7 4 142 148 0 25 32 ∷
+      line 47 8 4 142 148 0 26 32 ∷
+      line 0 0 4 142 143 1 0 0 ∷
+      line 1 0 4 143 144 4 0 0 ∷
+      line 30 0 4 144 145 40 0 0 ∷
+      line 31 0 4 145 146 16 0 0 ∷
+      line 32 0 4 146 147 16 0 0 ∷
+      line 33 0 4 147 148 0 0 0 ∷
+      line 3 6 0 148 152 0 0 0 ∷
+      []
+    ) ∷
     []
