@@ -65,7 +65,12 @@ const BIT_ROWS: [(u8, u8, usize, &[u8]); 4] = [
     (0, 33, 4, &[0x80, 0x7F]),
     (0, 34, 8, &[0x80, 0x7F]),
     (0, 36, 4, &[0x80, 0x7F]),
-    (1, 4, 1, &[0x80, 0x40, 0x20, 0x1F]),
+    (
+        1,
+        4,
+        1,
+        &[0x80, 0x40, 0x20, 0x1F, 0x7F, 0x3F, 0xBF, 0xDF, 0xFF],
+    ),
 ];
 
 /// Rows that end with an SRv6 tail: registry, type, the place of the tail.
@@ -179,7 +184,7 @@ const FOREIGN_TYPES: [(u8, &[(u8, usize)]); 10] = [
 ];
 
 /// Entries in a row and a remainder: registry, entries of type and value length, octets after them.
-const SEQUENCES: [(u8, &[(u8, usize)], &[u8]); 13] = [
+const SEQUENCES: [(u8, &[(u8, usize)], &[u8]); 15] = [
     (0, &[(18, 3), (6, 4)], &[]),
     (0, &[(31, 5), (18, 4), (9, 4)], &[]),
     (1, &[(4, 1), (3, 6), (1, 9)], &[]),
@@ -193,6 +198,8 @@ const SEQUENCES: [(u8, &[(u8, usize)], &[u8]); 13] = [
     (4, &[(1, 4)], &[0x01]),
     (5, &[(7, 2)], &[0x07, 0x02, 0x5A]),
     (0, &[], &[0x12, 0x06, 0x12, 0x03, 0x5A, 0xA7, 0x3C]),
+    (0, &[(18, 255), (40, 255)], &[]),
+    (0, &[(6, 4)], &[0x28, 0xFF, 0x5A]),
 ];
 
 /// All areas, in the order of the cases.

@@ -23,13 +23,10 @@ rustCases =
 /// The text between the cases and the types.
 const MIDDLE: &str = "    []
 
--- of each registry, the types of which a value of 44 octets is read
-unfoldable pub rustTypes : List (List ℕ)
+-- of each registry, the types that are read, each with the least length of a value that is
+unfoldable pub rustTypes : List (List (List ℕ))
 rustTypes =
 ";
-
-/// The octets of a value that is long enough for every type.
-const LONG: u8 = 44;
 
 /// The label of a value that is not read.
 const VALUE: u8 = 2;
@@ -43,8 +40,10 @@ pub fn cases() -> String {
 
 /// The types that a registry reads.
 fn types(registry: u8) -> String {
-    let read = (0..=u8::MAX).filter(|&t| is_read(registry, t));
-    let elements: String = read.map(|t| format!("{t} ∷ ")).collect();
+    let all = (0..=u8::MAX).filter_map(|t| Some((t, least_length(registry, t)?)));
+    let elements: String = all
+        .map(|(t, least)| format!("({t} ∷ {least} ∷ []) ∷ "))
+        .collect();
     let list = if elements.is_empty() {
         "[]".into()
     } else {
@@ -53,9 +52,14 @@ fn types(registry: u8) -> String {
     format!("    {list} ∷\n")
 }
 
-/// Whether a long value of a type is read: none of the registry's records is a `value`.
-fn is_read(registry: u8, t: u8) -> bool {
-    let area = [&[t, LONG][..], &[0; LONG as usize]].concat();
+/// The length of the shortest value of a type that is read.
+pub fn least_length(registry: u8, t: u8) -> Option<u8> {
+    (0..=u8::MAX).find(|&length| is_read(registry, t, length))
+}
+
+/// Whether a value of a type is read: none of the registry's records is a `value`.
+pub fn is_read(registry: u8, t: u8, length: u8) -> bool {
+    let area = [vec![t, length], vec![0; usize::from(length)]].concat();
     let records = push(registry, BASE, &area).records;
     !records
         .iter()

@@ -24,7 +24,7 @@ pub mod util;
 mod sub_tlv;
 
 pub use areas::{Area, areas};
-pub use cases::cases;
+pub use cases::{cases, is_read, least_length};
 pub use dump::dump;
 pub use names::{listing, name};
 pub use records::{Push, Record, push};

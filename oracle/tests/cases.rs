@@ -2,7 +2,7 @@
 
 use std::collections::HashSet;
 
-use oracle::{Area, LAST_REGISTRY, areas, cases};
+use oracle::{Area, LAST_REGISTRY, areas, cases, is_read, least_length};
 
 /// The stored cases.
 const STORED: &str = include_str!("../../crates/meaning/specs/Examples/RustCases.antt");
@@ -172,13 +172,17 @@ fn all_flags_are_set_once_and_clear_once() {
 }
 
 #[test]
-fn no_area_stands_twice_and_no_value_is_long() {
+fn no_area_stands_twice() {
     let areas = areas();
     for (place, area) in areas.iter().enumerate() {
         assert!(!areas[..place].contains(area), "{area:?}");
     }
+}
+
+#[test]
+fn a_value_of_the_greatest_length_is_there() {
     let longest = all_entries().iter().map(|entry| entry.2.len()).max();
-    assert!(longest < Some(45));
+    assert_eq!(longest, Some(255));
 }
 
 #[test]
@@ -198,5 +202,28 @@ fn every_registry_has_entries_with_a_remainder() {
             area.registry == registry && (1..area.octets.len()).contains(&lengths.sum())
         };
         assert!(areas().iter().any(is_wanted), "{registry}");
+    }
+}
+
+#[test]
+fn a_type_is_read_from_its_least_length_on() {
+    for registry in 0..=LAST_REGISTRY {
+        for t in 0..=u8::MAX {
+            let Some(least) = least_length(registry, t) else {
+                continue;
+            };
+            assert!((least..=u8::MAX).all(|length| is_read(registry, t, length)));
+        }
+    }
+}
+
+#[test]
+fn the_types_that_are_read_are_the_rows() {
+    for registry in 0..=LAST_REGISTRY {
+        for t in 0..=u8::MAX {
+            let row = ROWS.iter().find(|row| (row.0, row.1) == (registry, t));
+            let least = least_length(registry, t).map(usize::from);
+            assert_eq!(least, row.map(|row| row.2), "{registry}, {t}");
+        }
     }
 }

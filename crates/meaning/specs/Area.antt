@@ -5,11 +5,11 @@ use lib.ListN.{length, getD, drop}
 use Rattle.tape.specs.Forest.{Forest, none, _⧺_}
 use Rattle.meaning.specs.Label
 use Rattle.meaning.specs.Shape.{u8, object}
-use Rattle.meaning.specs.Frame.{entries, covered, remainder}
+use Rattle.meaning.specs.Frame.{entries}
 use Rattle.meaning.specs.Field.{Plan}
-use Rattle.meaning.specs.Tree.{one, over, raw}
+use Rattle.meaning.specs.Tree.{one, over}
 use Rattle.meaning.specs.Array.{arrayOf}
-use Rattle.meaning.specs.Value.{Walk, valueTrees}
+use Rattle.meaning.specs.Value.{Walk, pushBy, valueTrees}
 
 -- plan: how a value is read. walk: how an area inside a value is walked
 module _ (plan : Plan) (walk : Walk) (registry : ℕ) where
@@ -26,7 +26,7 @@ module _ (plan : Plan) (walk : Walk) (registry : ℕ) where
   walkTrees [] base = none
   walkTrees (x ∷ xs) base = arrayOf Label.subTlvs registry entryTrees base (entries (x ∷ xs))
 
--- inside an area of the nested level (registries 4 and 5) nothing is walked again
+-- inside an area of the nested level (registries 4 and 5) nothing is walked again: its values have no area inside, by the table's reading
 abbrev pub noWalk : Walk
 noWalk registry area base = none
 
@@ -38,6 +38,6 @@ innerWalk plan = walkTrees plan noWalk
 unfoldable pub walked : Plan → Walk
 walked plan = walkTrees plan (innerWalk plan)
 
--- the push (`push_sub_tlvs`): the walk, and one `raw` record for the remainder, beside the array, absent when empty
+-- the push (`push_sub_tlvs`)
 unfoldable pub pushed : Plan → Walk
-pushed plan registry area base = walked plan registry area base ⧺ raw registry (base + covered area) (remainder area)
+pushed plan = pushBy (walked plan)

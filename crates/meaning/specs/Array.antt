@@ -7,7 +7,7 @@ use Rattle.tape.specs.Forest.{Forest, _⧺_}
 use Rattle.meaning.specs.Label
 use Rattle.meaning.specs.Label.{Label}
 use Rattle.meaning.specs.Shape.{u8, u32, array as arrayShape, object}
-use Rattle.meaning.specs.Cut.{Measure, total, each}
+use Rattle.meaning.specs.Cut.{Measure, pieces, total, each}
 use Rattle.meaning.specs.Frame.{whole, rangeLength}
 use Rattle.meaning.specs.Field.{Span, from, first, Element, numbers, msds, ranges}
 use Rattle.meaning.specs.Tree.{one, over, numberIn}
@@ -28,6 +28,10 @@ abbrev pub elementLength : Element → Measure
 elementLength (numbers label shape width) = whole width
 elementLength msds = whole 2
 elementLength ranges = rangeLength
+
+-- the complete elements of a value in a span
+abbrev pub elements : Span → Element → List ℕ → List (List ℕ)
+elements span element v = pieces (elementLength element) (octetsIn span v)
 
 -- an element p, the first octet at a place
 unfoldable pub elementTrees : Element → ℕ → List ℕ → ℕ → Forest

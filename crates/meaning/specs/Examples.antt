@@ -2,6 +2,7 @@
 use mathlib.Core.Path.{_≡_, refl}
 use mathlib.Core.List.{List, [], _∷_, map}
 use Prim.Native.Nat.{ℕ}
+use lib.ListN.{length}
 use Rattle.octets.specs.BigEndian.{bigEndian}
 use Rattle.octets.specs.Mask.{kept, masked}
 use Rattle.registry.specs.Registry.{registryOf}
@@ -13,7 +14,7 @@ use Rattle.meaning.specs.Table.{table, fieldsOf, usual}
 use Rattle.meaning.specs.Tree.{raw}
 use Rattle.meaning.specs.Sid.{sidTrees, sidEnd}
 use Rattle.meaning.specs.Array.{elementTrees, arrayOf}
-use Rattle.meaning.specs.Value.{fieldEnd, taken, fieldTrees, fieldsTrees, valueTrees}
+use Rattle.meaning.specs.Value.{fieldEnd, taken, pushBy, fieldTrees, fieldsTrees, valueTrees}
 use Rattle.meaning.specs.Area.{entryTrees, walkTrees, innerWalk, walked, pushed}
 use Rattle.meaning.specs.AreaCall.{appended, fitted, callIn}
 use Rattle.meaning.specs.Examples.Example.{Case, given, wanted, typesRead}
@@ -29,14 +30,19 @@ Hold list = map given list ≡ map wanted list
 
 -- all at once: document 01's [P] cases, its others, and what the Rust of docs/src shows
 pub hold : Hold cases × Hold others × Hold rustCases
-unfolding cases others rustCases bigEndian kept masked registryOf headed putAt store _⧺_ flat piecesAfter pieces total each entryLength entries covered remainder rangeLength table fieldsOf usual raw sidTrees sidEnd elementTrees arrayOf fieldEnd taken fieldTrees fieldsTrees valueTrees entryTrees walkTrees innerWalk walked pushed appended fitted callIn
+unfolding cases others rustCases bigEndian kept masked registryOf headed putAt store _⧺_ flat piecesAfter pieces total each entryLength entries covered remainder rangeLength table fieldsOf usual raw sidTrees sidEnd elementTrees arrayOf fieldEnd taken pushBy fieldTrees fieldsTrees valueTrees entryTrees walkTrees innerWalk walked pushed appended fitted callIn
 hold = (refl, refl, refl)
 
 -- document 01's cases marked [P], one statement over one list
 pub examples : Hold cases
 examples = hold .0
 
--- the table has rows for the types that the Rust reads, and for no others
+-- the table has one row for each type that the Rust reads, from the same length on, and no others
 pub types-read : map (λ (registry : ℕ). typesRead registry 0 256) (0 ∷ 1 ∷ 2 ∷ 3 ∷ 4 ∷ 5 ∷ []) ≡ rustTypes
-unfolding usual fieldsOf table rustTypes
+unfolding table rustTypes
 types-read = refl
+
+-- and no row is of another registry
+pub rows : length table ≡ 39
+unfolding table
+rows = refl

@@ -37,6 +37,6 @@ pub data Field : Type 0 where
 pub data Row : Type 0 where
   row : ℕ → ℕ → ℕ → List Field → Row
 
--- a reading: the fields of a value, by registry, type and value; none where it is not decoded
+-- a plan, that is a reading of values: the fields of a value, by registry, type and value; none where it is not decoded
 abbrev pub Plan : Type 0
 Plan = ℕ → ℕ → List ℕ → List Field

@@ -26,10 +26,10 @@ covered area = total (entries area)
 unfoldable pub remainder : List ℕ → List ℕ
 remainder area = drop (covered area) area
 
--- RFC 8667, section 3.1: after 3 octets of size, sub-type 1 and length 3 or 4 (document 01, 'Ranges')
+-- RFC 8667, section 3.1 (document 01, 'Ranges'): after 3 octets of size stand sub-type 1 and length 3 or 4
 abbrev pub isRange : List ℕ → Bool
 isRange xs = eqb (getD xs 3 0) 1 && (eqb (getD xs 4 0) 3 || eqb (getD xs 4 0) 4)
 
--- and as many octets as that length says; anything else stops
+-- a range: those 5 octets, and as many as the length says; anything else stops
 unfoldable pub rangeLength : Measure
 rangeLength xs = cond (isRange xs) (whole (5 + getD xs 4 0) xs) 0

@@ -1,4 +1,4 @@
--- A SID (document 01, 'SID'; RFC 8667, section 2.1.1.1): the octet count alone decides.
+-- A SID (document 01, 'SID'; RFC 8667, sections 2.1.1.1 and 2.3): the octet count alone decides.
 use mathlib.Core.Bool.{cond}
 use mathlib.Core.List.{List}
 use Prim.Native.Nat.{ℕ, _+_, _%_, _^_}
@@ -10,7 +10,7 @@ use Rattle.meaning.specs.Label.{Label}
 use Rattle.meaning.specs.Shape.{u32}
 use Rattle.meaning.specs.Tree.{one}
 
--- a SID from a place of v on, whose first octet is at base: with 4 octets left or more, the first four as a 32-bit number; with 3, the low 20 bits; with fewer, nothing
+-- the SID that begins at a place of v: with 4 octets left or more, the first four as a 32-bit number; with 3, their low 20 bits; with fewer, nothing. base is the place of v's first octet
 unfoldable pub sidTrees : Label → ℕ → List ℕ → ℕ → ℕ → Forest
 sidTrees label registry v base at =
     cond (leb (at + 4) (length v)) (one label u32 registry (base + at) (base + at + 4) (bigEndian v at 4))

@@ -14,25 +14,29 @@ use Rattle.meaning.specs.Sid.{sidTrees, sidEnd}
 
 module _ (label : Label) (registry : ℕ) (v : List ℕ) (base at : ℕ) where
   -- 4 octets or more are left
-  pub sid-index : at + 4 ≤ length v → sidTrees label registry v base at ≡ one label u32 registry (base + at) (base + at + 4) (bigEndian v at 4)
+  pub sid-four : at + 4 ≤ length v → sidTrees label registry v base at ≡ one label u32 registry (base + at) (base + at + 4) (bigEndian v at 4)
   unfolding sidTrees
-  sid-index long = rw (le-leb (at + 4) (length v) long)
+  sid-four long = rw (le-leb (at + 4) (length v) long)
 
   -- 3 are left
-  pub sid-label : length v ≡ at + 3 → sidTrees label registry v base at ≡ one label u32 registry (base + at) (base + at + 3) (bigEndian v at 3 % 1048576)
+  pub sid-three : length v ≡ at + 3 → sidTrees label registry v base at ≡ one label u32 registry (base + at) (base + at + 3) (bigEndian v at 3 % 1048576)
   unfolding sidTrees
-  sid-label three = rw (lt-leb (at + 4) (length v) (omega (arith, three)), le-leb (at + 3) (length v) (omega (arith, three)))
+  sid-three three = rw (lt-leb (at + 4) (length v) (omega (arith, three)), le-leb (at + 3) (length v) (omega (arith, three)))
 
   -- fewer are left
-  pub sid-nothing : length v < at + 3 → sidTrees label registry v base at ≡ none
+  pub sid-fewer : length v < at + 3 → sidTrees label registry v base at ≡ none
   unfolding sidTrees
-  sid-nothing short = rw (lt-leb (at + 4) (length v) (omega arith), lt-leb (at + 3) (length v) short)
+  sid-fewer short = rw (lt-leb (at + 4) (length v) (omega arith), lt-leb (at + 3) (length v) short)
 
 module _ (v : List ℕ) (at : ℕ) where
-  pub sid-index-end : at + 4 ≤ length v → sidEnd v at ≡ at + 4
+  pub sid-four-end : at + 4 ≤ length v → sidEnd v at ≡ at + 4
   unfolding sidEnd
-  sid-index-end long = rw (le-leb (at + 4) (length v) long)
+  sid-four-end long = rw (le-leb (at + 4) (length v) long)
 
-  pub sid-label-end : length v ≡ at + 3 → sidEnd v at ≡ at + 3
+  pub sid-three-end : length v ≡ at + 3 → sidEnd v at ≡ at + 3
   unfolding sidEnd
-  sid-label-end three = rw (lt-leb (at + 4) (length v) (omega (arith, three)), le-leb (at + 3) (length v) (omega (arith, three)))
+  sid-three-end three = rw (lt-leb (at + 4) (length v) (omega (arith, three)), le-leb (at + 3) (length v) (omega (arith, three)))
+
+  pub sid-fewer-end : length v < at + 3 → sidEnd v at ≡ at
+  unfolding sidEnd
+  sid-fewer-end short = rw (lt-leb (at + 4) (length v) (omega arith), lt-leb (at + 3) (length v) short)

@@ -8,17 +8,17 @@ use Rattle.meaning.specs.Label
 use Rattle.meaning.specs.Shape.{u8, u16, u32, u64, ipv4, ipv6, bytes}
 use Rattle.meaning.specs.Field.{Field, part, flag, sid, array, tail, push, from, first, numbers, msds, ranges, Row, row, Plan}
 
--- RFC 8570, sections 4.5 to 4.7: residual, available and utilized bandwidth share one reading
+-- the types 37 through 39 share one reading
 abbrev bandwidth : List Field
 bandwidth = part Label.bandwidth u32 0 4 ∷ []
 
--- RFC 8667, section 2.1, Prefix-SID: Flags | Algorithm | SID/Index/Label
+-- Prefix-SID: Flags | Algorithm | SID/Index/Label
 abbrev prefixSid : List Field
 prefixSid = part Label.flags u8 0 1 ∷ part Label.algorithm u8 1 1 ∷ sid 2 ∷ []
 
--- RFC 8667, sections 3.1 and 3.3: Flags | ranges
-abbrev block : List Field
-block = part Label.flags u8 0 1 ∷ array Label.ranges (from 1) ranges ∷ []
+-- Flags | ranges
+abbrev flagsAndRanges : List Field
+flagsAndRanges = part Label.flags u8 0 1 ∷ array Label.ranges (from 1) ranges ∷ []
 
 -- registry, type, least value length, fields
 unfoldable pub table : List Row
@@ -55,8 +55,11 @@ table =
     row 0 34 8 (flag Label.anomalous 0x80 ∷ part Label.minDelay u32 1 3 ∷ part Label.maxDelay u32 5 3 ∷ []) ∷
     -- RFC 8570, section 4.3, delay variation: RESERVED | Delay Variation
     row 0 35 4 (part Label.delayVariation u32 1 3 ∷ []) ∷
+    -- RFC 8570, section 4.5, residual bandwidth
     row 0 37 4 bandwidth ∷
+    -- RFC 8570, section 4.6, available bandwidth
     row 0 38 4 bandwidth ∷
+    -- RFC 8570, section 4.7, utilized bandwidth
     row 0 39 4 bandwidth ∷
     -- RFC 9352, section 8.1, SRv6 End.X SID: Flags | Algorithm | Weight | Endpoint Behavior | SID | Sub-sub-TLV-len | Sub-sub-TLVs
     row 0 43 21 (part Label.flags u8 0 1 ∷ part Label.algorithm u8 1 1 ∷ part Label.weight u8 2 1 ∷ part Label.endpointBehavior u16 3 2 ∷ tail 5 ∷ []) ∷
@@ -66,20 +69,25 @@ table =
     row 1 1 4 (array Label.tags (from 0) (numbers Label.tag u32 4) ∷ []) ∷
     -- RFC 5130, section 3.2, 64-bit administrative tags
     row 1 2 8 (array Label.tags (from 0) (numbers Label.tag u64 8) ∷ []) ∷
+    -- RFC 8667, section 2.1, Prefix-SID
     row 1 3 5 prefixSid ∷
+    -- RFC 8667, section 2.4.4, Prefix-SID of a mapping server
     row 3 3 5 prefixSid ∷
     -- RFC 7794, section 2.1, prefix attribute flags: X | R | N | ...
     row 1 4 1 (part Label.flags u8 0 1 ∷ flag Label.flagX 0x80 ∷ flag Label.flagR 0x40 ∷ flag Label.flagN 0x20 ∷ []) ∷
     -- RFC 9352, section 7.2, SRv6 End SID: Flags | Endpoint Behavior | SID | Sub-sub-TLV-len | Sub-sub-TLVs
     row 1 5 19 (part Label.flags u8 0 1 ∷ part Label.endpointBehavior u16 1 2 ∷ tail 3 ∷ []) ∷
-    -- RFC 7794, section 2.2, IPv4 and IPv6 source router ID
+    -- RFC 7794, section 2.2, IPv4 source router ID
     row 1 11 4 (part Label.ipv4SourceRouterId ipv4 0 4 ∷ []) ∷
+    -- RFC 7794, section 2.2, IPv6 source router ID
     row 1 12 16 (part Label.ipv6SourceRouterId ipv6 0 16 ∷ []) ∷
-    -- RFC 8667, section 3.1, SR-Capabilities, and section 3.3, SR Local Block
-    row 2 2 1 block ∷
-    row 2 22 1 block ∷
-    -- RFC 9346, sections 3.5.1 and 3.5.2, IPv4 and IPv6 TE router ID
+    -- RFC 8667, section 3.1, SR-Capabilities
+    row 2 2 1 flagsAndRanges ∷
+    -- RFC 8667, section 3.3, SR Local Block
+    row 2 22 1 flagsAndRanges ∷
+    -- RFC 9346, section 3.5.1, IPv4 TE router ID
     row 2 11 4 (part Label.ipv4TeRouterId ipv4 0 4 ∷ []) ∷
+    -- RFC 9346, section 3.5.2, IPv6 TE router ID
     row 2 12 16 (part Label.ipv6TeRouterId ipv6 0 16 ∷ []) ∷
     -- RFC 8667, section 3.2, SR-Algorithm
     row 2 19 0 (array Label.algorithms (from 0) (numbers Label.algorithmElement u8 1) ∷ []) ∷
@@ -89,7 +97,7 @@ table =
     row 2 24 1 (part Label.preference u8 0 1 ∷ []) ∷
     -- RFC 9352, section 2, SRv6 Capabilities: Flags | sub-sub-TLVs
     row 2 25 2 (part Label.srv6Flags u16 0 2 ∷ push 2 ∷ []) ∷
-    -- RFC 8667, section 2.3, SID/Label
+    -- RFC 8667, sections 2.3 and 2.4.5, SID/Label
     row 3 1 3 (sid 0 ∷ []) ∷
     -- RFC 9352, section 9, SRv6 SID Structure: LB Length | LN Length | Fun. Length | Arg. Length
     row 4 1 4 (part Label.locatorBlockLength u8 0 1 ∷ part Label.locatorNodeLength u8 1 1 ∷ part Label.functionLength u8 2 1 ∷ part Label.argumentLength u8 3 1 ∷ []) ∷

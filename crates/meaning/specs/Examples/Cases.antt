@@ -1,7 +1,7 @@
 -- The examples of document 01, 'Octets and what they become', and the one of docs/MEANING.md.
 use mathlib.Core.List.{List, [], _∷_, _++_}
 use lib.ListN.{replicate}
-use Rattle.meaning.specs.Examples.Example.{line, Case, done, refused, mask, push}
+use Rattle.meaning.specs.Examples.Example.{line, Case, done, refused, walk, onto, mask, push}
 
 -- those marked [P]
 unfoldable pub cases : List Case
@@ -220,4 +220,16 @@ others =
       line 3 6 0 148 152 0 0 0 ∷
       []
     ) ∷
+    -- a walk leaves the remainder: the second case and the fourth, walked
+    walk 0 (0x12 ∷ []) 0 (
+      line 4 7 0 100 100 0 1 1 ∷
+      []
+    ) ∷
+    walk 0 (0x12 ∷ 0x03 ∷ 0x00 ∷ 0x00 ∷ []) 0 (
+      line 4 7 0 100 100 0 1 1 ∷
+      []
+    ) ∷
+    -- the second case, pushed behind two records of any words, on a tape with room for four and a word to spare
+    onto (2 ∷ 4 ∷ 6 ∷ 0 ∷ replicate 12 9 ++ replicate 13 7) 0 (0x12 ∷ []) 0 0 2 2
+    (4 ∷ 4 ∷ 6 ∷ 0 ∷ replicate 12 9 ++ (1796 ∷ 100 ∷ 100 ∷ 0 ∷ 3 ∷ 3 ∷ 1539 ∷ 100 ∷ 101 ∷ 0 ∷ 0 ∷ 0 ∷ 7 ∷ [])) ∷
     []

@@ -1,13 +1,14 @@
 -- The form of an example.
-use mathlib.Core.Bool.{Bool, true, false}
+use mathlib.Core.Bool.{Bool, true, false, _&&_}
 use mathlib.Core.List.{List, [], _∷_, _++_}
 use Prim.Native.Nat.{ℕ, zero, suc, _+_, _*_}
+use lib.Dec.{eqb}
 use lib.ListN.{length, replicate}
 use Rattle.octets.specs.Mask.{masked}
 use Rattle.outcome.specs.Call.{After, numbersOf}
-use Rattle.meaning.specs.Field.{Field}
-use Rattle.meaning.specs.Table.{usual}
-use Rattle.meaning.specs.AreaCall.{pushCall}
+use Rattle.meaning.specs.Field.{Row, row}
+use Rattle.meaning.specs.Table.{table}
+use Rattle.meaning.specs.AreaCall.{walkCall, pushCall}
 
 -- an empty tape with room for n records
 abbrev pub emptyTape : ℕ → List ℕ
@@ -28,6 +29,10 @@ pub data Case : Type 0 where
   done : ℕ → ℕ → List ℕ → ℕ → List Line → Case
   -- a push that is refused: room of the empty tape, base, registry, area, answer, needed
   refused : ℕ → ℕ → ℕ → List ℕ → ℕ → ℕ → Case
+  -- a walk at base 100 that is done, onto an empty tape with just the room that is needed: registry, area, octets covered, records
+  walk : ℕ → List ℕ → ℕ → List Line → Case
+  -- a push at base 100 onto any tape: tape, registry, area, answer, covered, written, needed, tape afterwards
+  onto : List ℕ → ℕ → List ℕ → ℕ → ℕ → ℕ → ℕ → List ℕ → Case
   -- a mask: bits, octets, octets afterwards
   mask : ℕ → List ℕ → List ℕ → Case
 
@@ -43,26 +48,38 @@ all after = numbersOf (after .outcome) ++ after .lent
 abbrev pub given : Case → List ℕ
 given (done base registry area octets lines) = all (pushCall registry area base (emptyTape (length lines)))
 given (refused room base registry area answer needed) = all (pushCall registry area base (emptyTape room))
+given (walk registry area octets lines) = all (walkCall registry area 100 (emptyTape (length lines)))
+given (onto tape registry area answer octets written needed after) = all (pushCall registry area 100 tape)
 given (mask bits before after) = masked bits before
+
+-- done, with just these records on the tape
+abbrev pub doneWith : ℕ → List Line → List ℕ
+doneWith octets lines = 0 ∷ octets ∷ length lines ∷ length lines ∷ length lines ∷ 4 ∷ 6 ∷ 0 ∷ wordsOf lines
 
 -- what the example says
 abbrev pub wanted : Case → List ℕ
-wanted (done base registry area octets lines) =
-    0 ∷ octets ∷ length lines ∷ length lines ∷ length lines ∷ 4 ∷ 6 ∷ 0 ∷ wordsOf lines
+wanted (done base registry area octets lines) = doneWith octets lines
 wanted (refused room base registry area answer needed) = answer ∷ 0 ∷ 0 ∷ needed ∷ emptyTape room
+wanted (walk registry area octets lines) = doneWith octets lines
+wanted (onto tape registry area answer octets written needed after) = answer ∷ octets ∷ written ∷ needed ∷ after
 wanted (mask bits before after) = after
-
--- whether there are fields
-abbrev pub some : List Field → Bool
-some [] = false
-some (f ∷ fs) = true
 
 -- a number in front of others, where a test holds
 abbrev pub also : Bool → ℕ → List ℕ → List ℕ
 also true n ns = n ∷ ns
 also false n ns = ns
 
--- of a registry, the types among the n from t on of which a value of 44 octets is read
-abbrev pub typesRead : ℕ → ℕ → ℕ → List ℕ
+-- the least lengths of the rows of a registry and type
+abbrev pub leasts : List Row → ℕ → ℕ → List ℕ
+leasts [] registry t = []
+leasts (row registry′ t′ least fields ∷ rows) registry t = also (eqb registry registry′ && eqb t t′) least (leasts rows registry t)
+
+-- a type and the least lengths of its rows in front of others, where it has a row
+abbrev pub typed : ℕ → List ℕ → List (List ℕ) → List (List ℕ)
+typed t [] others = others
+typed t (least ∷ more) others = (t ∷ least ∷ more) ∷ others
+
+-- of a registry, those of the n types from t on that have rows
+abbrev pub typesRead : ℕ → ℕ → ℕ → List (List ℕ)
 typesRead registry t zero = []
-typesRead registry t (suc n) = also (some (usual registry t (replicate 44 0))) t (typesRead registry (t + 1) n)
+typesRead registry t (suc n) = typed t (leasts table registry t) (typesRead registry (t + 1) n)

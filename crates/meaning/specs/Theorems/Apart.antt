@@ -14,20 +14,17 @@ use Rattle.meaning.specs.Frame.{entries, covered, remainder}
 use Rattle.meaning.specs.FrameLaws.{entry}
 use Rattle.meaning.specs.Field.{Plan}
 use Rattle.meaning.specs.Tree.{content, raw}
-use Rattle.meaning.specs.Value.{Walk}
+use Rattle.meaning.specs.Value.{Walk, pushBy}
 use Rattle.meaning.specs.Area.{entryTrees, walkTrees}
 
 -- what becomes of the remainder: a walk leaves it, a push shows it
 pub data Ending : Type 0 where
   leave show : Ending
 
-abbrev pub ending : Ending → ℕ → ℕ → List ℕ → Forest
-ending leave registry at xs = none
-ending show registry at xs = raw registry at xs
-
 -- a walk or a push, by any reading and any walk of inner areas
 abbrev pub shownBy : Ending → Plan → Walk → Walk
-shownBy e plan walk registry area base = walkTrees plan walk registry area base ⧺ ending e registry (base + covered area) (remainder area)
+shownBy leave plan walk = walkTrees plan walk
+shownBy show plan walk = pushBy (walkTrees plan walk)
 
 -- an area with the entry of type t and value v between pre and post
 abbrev pub with : List ℕ → List ℕ → ℕ → List ℕ → List ℕ

@@ -19,9 +19,9 @@ use Rattle.meaning.specs.FrameLaws.{entry, entries-++, covered-++, remai
 use Rattle.meaning.specs.Field.{Plan}
 use Rattle.meaning.specs.Tree.{content, raw}
 use Rattle.meaning.specs.Array.{arrayOf}
-use Rattle.meaning.specs.Value.{Walk}
-use Rattle.meaning.specs.Area.{entryTrees, walkTrees}
-use Rattle.meaning.specs.Theorems.Apart.{Ending, leave, show, ending, with, all, before, own, after, parts, Apart}
+use Rattle.meaning.specs.Value.{Walk, pushBy}
+use Rattle.meaning.specs.Area.{entryTrees, walkTrees, innerWalk, walked, pushed}
+use Rattle.meaning.specs.Theorems.Apart.{Ending, leave, show, shownBy, with, all, before, own, after, parts, Apart}
 
 -- the framing of an area with an entry between pre and post
 
@@ -45,12 +45,26 @@ unfolding walkTrees
 walk-shows plan walk registry [] base some = absurd (omega arith)
 walk-shows plan walk registry (x ∷ xs) base some = refl
 
--- what is shown of the remainder has no positions
-pub ending-anywhere : (e : Ending) (registry base : ℕ) (xs : List ℕ) (at : ℕ) → flat at (ending e registry base xs) ≡ flat 0 (ending e registry base xs)
+-- a `raw` record has no positions
+pub raw-anywhere : (registry base : ℕ) (xs : List ℕ) (at : ℕ) → flat at (raw registry base xs) ≡ flat 0 (raw registry base xs)
 unfolding flat raw
-ending-anywhere leave registry base xs at = refl
-ending-anywhere show registry base [] at = refl
-ending-anywhere show registry base (x ∷ xs) at = refl
+raw-anywhere registry base [] at = refl
+raw-anywhere registry base (x ∷ xs) at = refl
+
+-- the records that stand beside the walk's, for a remainder
+abbrev pub remains : Ending → ℕ → ℕ → List ℕ → List Record
+remains leave registry at xs = []
+remains show registry at xs = flat 0 (raw registry at xs)
+
+-- what is shown: the walk's records, and those beside
+pub flat-shown : (e : Ending) (plan : Plan) (walk : Walk) (registry : ℕ) (area : List ℕ) (base at : ℕ)
+    → flat at (shownBy e plan walk registry area base) ≡ flat at (walkTrees plan walk registry area base) ++ remains e registry (base + covered area) (remainder area)
+unfolding pushBy
+flat-shown leave plan walk registry area base at = sym (append-nil (flat at (walkTrees plan walk registry area base)))
+flat-shown show plan walk registry area base at =
+    let trees : Forest = walkTrees plan walk registry area base in
+    flat-⧺ trees (raw registry (base + covered area) (remainder area)) at
+    ∙ ap (λ (l : List Record). flat at trees ++ l) (raw-anywhere registry (base + covered area) (remainder area) (at + size trees))
 
 module _ (e : Ending) (plan : Plan) (walk : Walk) (registry base at : ℕ) (pre post : List ℕ) (t : ℕ) (whole : covered pre ≡ length pre) where
   -- what an entry becomes
@@ -68,7 +82,7 @@ module _ (e : Ending) (plan : Plan) (walk : Walk) (registry base at : ℕ) (pre 
 
   -- the records beside the array
   abbrev besides : List ℕ → List Record
-  besides v = flat 0 (ending e registry (base + covered (with pre post t v)) (remainder (with pre post t v)))
+  besides v = remains e registry (base + covered (with pre post t v)) (remainder (with pre post t v))
 
   -- the trees of the entries: those before, the entry's own, those after
   each-with : (v : List ℕ) → each shows base (entries (with pre post t v)) ≡
@@ -99,10 +113,8 @@ module _ (e : Ending) (plan : Plan) (walk : Walk) (registry base at : ℕ) (pre 
   all-parts : (v : List ℕ) → all e plan walk registry base at pre post t v ≡ parts e plan walk registry base at pre post t (length v) (owns v) ++ besides v
   all-parts v =
       let area : List ℕ = with pre post t v in
-      let trees : Forest = walkTrees plan walk registry area base in
       let some : 0 < length area = simp length-append (omega arith) in
-      flat-⧺ trees (ending e registry (base + covered area) (remainder area)) at
-      ∙ ap (λ (l : List Record). flat at trees ++ l) (ending-anywhere e registry (base + covered area) (remainder area) (at + size trees))
+      flat-shown e plan walk registry area base at
       ∙ ap (λ (l : List Record). l ++ besides v) (ap (flat at) (walk-shows plan walk registry area base some) ∙ array-parts v)
 
   -- demand 3
@@ -110,7 +122,7 @@ module _ (e : Ending) (plan : Plan) (walk : Walk) (registry base at : ℕ) (pre 
   apart v v′ same =
       let covers : covered (with pre post t v) ≡ covered (with pre post t v′) = rw (covered-with pre post whole t v, covered-with pre post whole t v′, same) refl in
       let leaves : remainder (with pre post t v) ≡ remainder (with pre post t v′) = remainder-with pre post whole t v ∙ sym (remainder-with pre post whole t v′) in
-      let as-second : besides v′ ≡ besides v = λ j. flat 0 (ending e registry (base + sym covers j) (sym leaves j)) in
+      let as-second : besides v′ ≡ besides v = λ j. remains e registry (base + sym covers j) (sym leaves j) in
       record {
         same-count = count-with pre post whole t v ∙ sym (count-with pre post whole t v′);
         same-covered = covers;
@@ -125,3 +137,13 @@ module _ (e : Ending) (plan : Plan) (walk : Walk) (registry base at : ℕ) (pre 
             let trees : Forest = each shows (base + length pre + suc (suc (length v))) (entries post) in
             ap (λ (p : ℕ). flat p trees) (sym (add-assoc (suc at + length befores) c d)) ∙ flat-moved trees (suc at + length befores + c) d;
       }
+
+-- walk and push are meant
+module _ (plan : Plan) (registry : ℕ) (area : List ℕ) (base : ℕ) where
+  pub walked-shown : walked plan registry area base ≡ shownBy leave plan (innerWalk plan) registry area base
+  unfolding walked
+  walked-shown = refl
+
+  pub pushed-shown : pushed plan registry area base ≡ shownBy show plan (innerWalk plan) registry area base
+  unfolding walked pushed pushBy
+  pushed-shown = refl

@@ -14,7 +14,7 @@ use Rattle.meaning.specs.Tree.{raw}
 use Rattle.meaning.specs.Array.{arrayOf}
 use Rattle.meaning.specs.Value.{Walk, fieldEnd, taken, fieldTrees, fieldsTrees, valueTrees}
 use Rattle.meaning.specs.Area.{entryTrees, walkTrees, innerWalk, walked, pushed}
-use Rattle.meaning.specs.AreaLaws.{pushed-whole}
+use Rattle.meaning.specs.AreaLaws.{push-whole, pushed-by}
 
 -- k entries `04 01 A0`
 abbrev pub full : ℕ → List ℕ
@@ -40,4 +40,4 @@ unfolding walked walkTrees arrayOf
 attained-walk k base = omega (arith, size-full (innerWalk usual) (suc k) base, length-full (suc k))
 
 pub attained-push : (k base : ℕ) → size (pushed usual 1 (full (suc k)) base) ≡ 1 + 7 * length (full (suc k)) / 3
-attained-push k base = ap size (pushed-whole usual 1 (full (suc k)) base (remainder-none (full (suc k)) (covered-full (suc k)))) ∙ attained-walk k base
+attained-push k base = ap size (pushed-by usual 1 (full (suc k)) base ∙ push-whole (walked usual) 1 (full (suc k)) base (remainder-none (full (suc k)) (covered-full (suc k)))) ∙ attained-walk k base

@@ -23,10 +23,10 @@ use Rattle.meaning.specs.FrameLaws.{passed, whole-fits, whole-is, entry-
 use Rattle.meaning.specs.Field.{Span, from, first, Element, numbers, msds, ranges, Field, part, flag, sid, array, tail, push, Plan}
 use Rattle.meaning.specs.Tree.{raw}
 use Rattle.meaning.specs.Sid.{sidTrees, sidEnd}
-use Rattle.meaning.specs.SidLaws.{sid-index-end, sid-label-end}
+use Rattle.meaning.specs.SidLaws.{sid-four-end, sid-three-end}
 use Rattle.meaning.specs.Array.{octetsIn, startOf, elementLength, elementTrees, arrayOf}
 use Rattle.meaning.specs.Tail.{lengthAt, innerFits, inner}
-use Rattle.meaning.specs.Value.{fieldEnd, taken, Walk, fieldTrees, fieldsTrees, valueTrees}
+use Rattle.meaning.specs.Value.{fieldEnd, taken, Walk, pushBy, fieldTrees, fieldsTrees, valueTrees}
 use Rattle.meaning.specs.Area.{entryTrees, walkTrees, noWalk, innerWalk, walked, pushed}
 use Rattle.meaning.specs.Theorems.Plan.{isPlain, need, areSparing, Spare, Sparing}
 
@@ -54,6 +54,11 @@ size-sid-le : (label : Label) (registry : ℕ) (v : List ℕ) (base at : ℕ) �
 unfolding sidTrees
 size-sid-le label registry v base at =
     cond-size (leb (at + 4) (length v)) _ _ 1 (omega arith) (cond-size (leb (at + 3) (length v)) _ none 1 (omega arith) (omega arith))
+
+-- a push, where the walk shows at most 7 records for 3 octets covered, beside its array
+push-bound : (walk : Walk) (registry : ℕ) (area : List ℕ) (base : ℕ) → 3 * size (walk registry area base) ≤ 3 + 7 * covered area → 3 * size (pushBy walk registry area base) ≤ 3 + 7 * length area
+unfolding pushBy
+push-bound walk registry area base small = rw size-⧺ (omega (arith, size-raw-le registry (base + covered area) (remainder area), length-remainder area))
 
 -- elements
 
@@ -90,10 +95,10 @@ sid-ends : (v : List ℕ) (at : ℕ) → at + 3 ≤ length v → (at + 3 ≤ sid
 sid-ends v at inside = go (decLe (at + 4) (length v))
   where
     go : Dec (at + 4 ≤ length v) → (at + 3 ≤ sidEnd v at) × (sidEnd v at ≤ length v)
-    go (yes long) = (omega (arith, sid-index-end v at long), omega (arith, sid-index-end v at long))
+    go (yes long) = (omega (arith, sid-four-end v at long), omega (arith, sid-four-end v at long))
     go (no short) =
         let three : length v ≡ at + 3 = omega arith in
-        (omega (arith, sid-label-end v at three), omega (arith, sid-label-end v at three))
+        (omega (arith, sid-three-end v at three), omega (arith, sid-three-end v at three))
 
 span-inside : (span : Span) (v : List ℕ) → startOf span ≤ length v → startOf span + length (octetsIn span v) ≤ length v
 span-inside (from at) v inside = omega (arith, length-drop at v)
@@ -128,15 +133,7 @@ module _ (walk : Walk) (small : (registry : ℕ) (area : List ℕ) (at : ℕ) �
   field-bound registry v base (array label span element) inside = omega (arith, array-bound label registry (base + startOf span) element (octetsIn span v))
   field-bound registry v base (tail at) inside =
       rw size-⧺ (tail-bound (innerFits v at) (walk (numberOf Srv6Sid) (inner v at) (base + (lengthAt at + 1))) at (covered (inner v at)) (small (numberOf Srv6Sid) (inner v at) (base + (lengthAt at + 1))))
-  field-bound registry v base (push at) inside =
-      rw size-⧺
-      (omega (
-        arith,
-        small (numberOf Unregistered) (drop at v) (base + at),
-        size-raw-le (numberOf Unregistered) (base + at + covered (drop at v)) (remainder (drop at v)),
-        length-remainder (drop at v),
-        length-drop at v,
-      ))
+  field-bound registry v base (push at) inside = omega (arith, push-bound walk (numberOf Unregistered) (drop at v) (base + at) (small (numberOf Unregistered) (drop at v) (base + at)), length-drop at v)
 
   field-inside : (v : List ℕ) (f : Field) → need f ≤ length v → fieldEnd v f ≤ length v
   unfolding fieldEnd
@@ -210,4 +207,4 @@ module _ (plan : Plan) (sparing : Sparing plan) (registry : ℕ) (area : List �
   -- a push
   pub needed-pushed : size (pushed plan registry area base) ≤ 1 + 7 * length area / 3
   unfolding pushed
-  needed-pushed = rw size-⧺ (omega (arith, walked-bound, size-raw-le registry (base + covered area) (remainder area), length-remainder area))
+  needed-pushed = omega (arith, push-bound (walked plan) registry area base walked-bound)

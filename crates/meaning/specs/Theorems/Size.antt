@@ -17,7 +17,7 @@ use Rattle.meaning.specs.Tree.{raw}
 use Rattle.meaning.specs.Sid.{sidTrees}
 use Rattle.meaning.specs.Array.{startOf, elementTrees, arrayOf}
 use Rattle.meaning.specs.Tail.{lengthAt, innerFits, inner}
-use Rattle.meaning.specs.Value.{taken, Walk, fieldTrees, fieldsTrees, valueTrees}
+use Rattle.meaning.specs.Value.{taken, Walk, pushBy, fieldTrees, fieldsTrees, valueTrees}
 use Rattle.meaning.specs.Area.{entryTrees, walkTrees, noWalk, innerWalk, walked, pushed}
 
 -- trees of equal sizes
@@ -54,6 +54,10 @@ size-element (numbers label shape width) registry p at at′ = refl
 size-element msds registry p at at′ = refl
 size-element ranges registry p at at′ = rw (size-sid _ registry p 5 at at′) refl
 
+size-push : (walk : Walk) (registry : ℕ) (area : List ℕ) (base base′ : ℕ) → size (walk registry area base) ≡ size (walk registry area base′) → size (pushBy walk registry area base) ≡ size (pushBy walk registry area base′)
+unfolding pushBy
+size-push walk registry area base base′ same = both-sizes _ _ _ _ same (size-raw registry (remainder area) (base + covered area) (base′ + covered area))
+
 -- values and areas
 
 -- where base does not matter to what is walked inside
@@ -67,8 +71,7 @@ module _ (walk : Walk) (same : (registry : ℕ) (area : List ℕ) (at at′ : �
   size-field registry v base base′ (tail at) =
       both-sizes _ _ _ _ refl (either-size (innerFits v at) _ _ none none (same (numberOf Srv6Sid) (inner v at) (base + (lengthAt at + 1)) (base′ + (lengthAt at + 1))) refl)
   size-field registry v base base′ (push at) =
-      both-sizes _ _ _ _ (same (numberOf Unregistered) (drop at v) (base + at) (base′ + at))
-      (size-raw (numberOf Unregistered) (remainder (drop at v)) (base + at + covered (drop at v)) (base′ + at + covered (drop at v)))
+      size-push walk (numberOf Unregistered) (drop at v) (base + at) (base′ + at) (same (numberOf Unregistered) (drop at v) (base + at) (base′ + at))
 
   size-fields : (registry : ℕ) (v : List ℕ) (base base′ : ℕ) (fs : List Field) → size (fieldsTrees walk registry v base fs) ≡ size (fieldsTrees walk registry v base′ fs)
   unfolding fieldsTrees
@@ -92,4 +95,4 @@ size-walked plan = size-walk (innerWalk plan) (size-walk noWalk (λ registry are
 
 pub size-pushed : (plan : Plan) (registry : ℕ) (area : List ℕ) (base base′ : ℕ) → size (pushed plan registry area base) ≡ size (pushed plan registry area base′)
 unfolding pushed
-size-pushed plan registry area base base′ = both-sizes _ _ _ _ (size-walked plan registry area base base′) (size-raw registry (remainder area) (base + covered area) (base′ + covered area))
+size-pushed plan registry area base base′ = size-push (walked plan) registry area base base′ (size-walked plan registry area base base′)

@@ -22,7 +22,7 @@ use Rattle.meaning.specs.Tree.{one, over, raw, value, numberIn}
 use Rattle.meaning.specs.Sid.{sidTrees}
 use Rattle.meaning.specs.Array.{startOf, elementTrees, arrayOf}
 use Rattle.meaning.specs.Tail.{lengthAt, innerFits, inner}
-use Rattle.meaning.specs.Value.{taken, Walk, fieldTrees, fieldsTrees, valueTrees}
+use Rattle.meaning.specs.Value.{taken, Walk, pushBy, fieldTrees, fieldsTrees, valueTrees}
 use Rattle.meaning.specs.Area.{entryTrees, walkTrees, noWalk, innerWalk, walked, pushed}
 use Rattle.meaning.specs.Theorems.Sound.{Sound}
 use Rattle.meaning.specs.Theorems.SoundLaws.{fine-leaf, fine-node, sound-none, sound-⧺, sound-cond, sound-deeper, sound-each}
@@ -62,6 +62,12 @@ module _ (d registry : ℕ) (low : registry ≤ lastRegistry) where
   sound-sid label v base at =
       sound-cond d (leb (at + 4) (length v)) _ _ (sound-number label u32 (base + at) (base + at + 4) (bigEndian v at 4) (omega arith) refl)
       (sound-cond d (leb (at + 3) (length v)) _ none (sound-number label u32 (base + at) (base + at + 3) (bigEndian v at 3 % 2 ^ 20) (omega arith) refl) (sound-none _))
+
+-- a push
+sound-push : (d : ℕ) (walk : Walk) (registry : ℕ) (area : List ℕ) (base : ℕ) → registry ≤ lastRegistry → Sound d (walk registry area base) → Sound d (pushBy walk registry area base)
+unfolding pushBy
+sound-push d walk registry area base low x =
+    sound-⧺ d (walk registry area base) (raw registry (base + covered area) (remainder area)) x (sound-raw d registry low (base + covered area) (remainder area))
 
 -- arrays
 
@@ -108,8 +114,7 @@ module _ (walk : Walk) (registry : ℕ) (low : registry ≤ lastRegistry) (v : L
       sound-⧺ 2 _ _ (sound-octets 2 registry low Label.srv6Sid ipv6 (base + at) (base + lengthAt at) (omega arith))
       (sound-cond 2 (innerFits v at) _ none (inside (numberOf Srv6Sid) (inner v at) (base + (lengthAt at + 1)) refl) (sound-none _))
   sound-field inside (push at) =
-      sound-⧺ 2 _ _ (inside (numberOf Unregistered) (drop at v) (base + at) refl)
-      (sound-raw 2 (numberOf Unregistered) (omega arith) (base + at + covered (drop at v)) (remainder (drop at v)))
+      sound-push 2 walk (numberOf Unregistered) (drop at v) (base + at) (omega arith) (inside (numberOf Unregistered) (drop at v) (base + at) refl)
 
   sound-fields : (d : ℕ) (fs : List Field) → Every (λ f. Sound d (fieldTrees walk registry v base f)) fs → Sound d (fieldsTrees walk registry v base fs)
   unfolding fieldsTrees
@@ -158,13 +163,13 @@ module _ (plan : Plan) (flat : Flat plan) where
       (every-plain _ (sound-plain noWalk registry (inner-low registry inside) v at) (plan registry t v) (flat registry t v inside)))
       area base
 
-  pub sound-walked : (registry : ℕ) (area : List ℕ) (base : ℕ) → registry ≤ lastRegistry → Sound deepest (walked plan registry area base)
+  pub sound-walked : (registry : ℕ) (area : List ℕ) (base : ℕ) → registry ≤ lastRegistry → Sound 4 (walked plan registry area base)
   unfolding walked
   sound-walked registry area base low =
       sound-walk plan (innerWalk plan) registry low 2
       (λ t v at. sound-value (innerWalk plan) registry low v at 2 (plan registry t v) (every _ (sound-field (innerWalk plan) registry low v at sound-inner) (plan registry t v)))
       area base
 
-  pub sound-pushed : (registry : ℕ) (area : List ℕ) (base : ℕ) → registry ≤ lastRegistry → Sound deepest (pushed plan registry area base)
+  pub sound-pushed : (registry : ℕ) (area : List ℕ) (base : ℕ) → registry ≤ lastRegistry → Sound 4 (pushed plan registry area base)
   unfolding pushed
-  sound-pushed registry area base low = sound-⧺ deepest _ _ (sound-walked registry area base low) (sound-raw deepest registry low (base + covered area) (remainder area))
+  sound-pushed registry area base low = sound-push 4 (walked plan) registry area base low (sound-walked registry area base low)

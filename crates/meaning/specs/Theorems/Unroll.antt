@@ -12,7 +12,7 @@ use Rattle.meaning.specs.Frame.{entries}
 use Rattle.meaning.specs.Field.{Field, part, flag, sid, array, tail, push, Plan}
 use Rattle.meaning.specs.Array.{arrayOf}
 use Rattle.meaning.specs.Tail.{lengthAt, inner}
-use Rattle.meaning.specs.Value.{Walk, fieldTrees, fieldsTrees, valueTrees}
+use Rattle.meaning.specs.Value.{Walk, pushBy, fieldTrees, fieldsTrees, valueTrees}
 use Rattle.meaning.specs.Area.{entryTrees, walkTrees, noWalk, innerWalk, walked}
 use Rattle.meaning.specs.Theorems.Plan.{isInner, isPlain, Every, Flat}
 use Rattle.meaning.specs.Theorems.PlanLaws.{every, every-plain}
@@ -40,7 +40,7 @@ module _ (walk walk′ : Walk) (registry : ℕ) (v : List ℕ) (base : ℕ) wher
 
   -- where they walk areas inside values alike
   field-same : ((r : ℕ) (area : List ℕ) (at : ℕ) → isInner r ≡ true → walk r area at ≡ walk′ r area at) → (f : Field) → Same f
-  unfolding fieldTrees
+  unfolding fieldTrees pushBy
   field-same alike (part label shape at width) = refl
   field-same alike (flag label mask) = refl
   field-same alike (sid at) = refl
