@@ -1,43 +1,44 @@
--- The calls walk and push, case by case; what they leave nests; old records change nothing.
-use mathlib.Core.Path.{_≡_, refl, _∙_}
+-- The calls walk and push, case by case, and the tape that they leave.
+use mathlib.Core.Path.{_≡_, refl, sym, ap, _∙_, subst}
 use mathlib.Core.Logic.{_⊎_}
-use mathlib.Core.Bool.{true, false}
+use mathlib.Core.Bool.{Bool, true, false, cond}
 use mathlib.Core.List.{List}
 use Prim.Native.Nat.{ℕ, _+_, _*_, _-_, _≤_, _<_}
+use native.Mathlib.Decide.{decLe}
 use native.Mathlib.Omega.{arith}
-use borrow.Author.Tests.{le-leb, lt-leb}
+use borrow.Author.Tests.{le-leb, lt-leb, leb-true}
+use lib.Dec.{leb}
 use lib.ListN.{length, getD, length-set}
 use lib.Seq.{getD-set-other}
-use Rattle.outcome.specs.Call.{refusal, noRoom}
-use Rattle.registry.specs.Registry.{numberOf}
-use Rattle.registry.specs.RegistryLaws.{registryOf-number, registryOf-past}
+use Rattle.outcome.specs.Call.{After, refusal, noRoom}
+use Rattle.registry.specs.Registry.{numberOf, registryOf}
+use Rattle.registry.specs.RegistryLaws.{registryOf-number, registryOf-past, numbered}
 use Rattle.registry.specs.declared.Registry.{Registry}
-use Rattle.registry.specs.declared.Found.the-variants.{Known}
-use Rattle.tape.specs.Limits.{deepest}
-use Rattle.tape.specs.Tape.{used, room, headed, withUsed, load, store}
+use Rattle.registry.specs.declared.Registry.the-variants.{Neighbor, Prefix, RouterCapability, Binding, Srv6Sid, Unregistered}
+use Rattle.registry.specs.declared.Found.{Found}
+use Rattle.registry.specs.declared.Found.the-variants.{Known, Unknown}
+use Rattle.tape.specs.Limits.{lastRegistry}
+use Rattle.tape.specs.Tape.{used, room, headed, load, store}
 use Rattle.tape.specs.TapeLaws.{length-store}
 use Rattle.tape.specs.HeaderLaws.{headed-in-order}
 use Rattle.tape.specs.Forest.{Forest, size, flat}
 use Rattle.tape.specs.Laid.{Laid}
 use Rattle.tape.specs.LaidLaws.{laid-length, laid-load, laid-other}
-use Rattle.tape.specs.Nest.{nestTest}
-use Rattle.tape.specs.WellNestedLaws.{yes-nested, nested-yes, load-with-used, used-with-used, nested-laid}
+use Rattle.tape.specs.WellNestedLaws.{load-with-used, used-with-used}
 use Rattle.meaning.specs.Frame.{covered}
 use Rattle.meaning.specs.Value.{Walk}
 use Rattle.meaning.specs.AreaCall.{longest, furthest, appended, shown, fitted, callIn, areaCall}
-use Rattle.meaning.specs.Theorems.Sound.{Sound}
-use Rattle.meaning.specs.Theorems.SoundLaws.{sound-depth, sound-formed}
 
 -- appended
 
 -- trees for which there is room
 module _ (t : List ℕ) (trees : Forest) (good : headed t ≡ true) (fits : size trees ≤ room t - used t) where
   -- they are laid behind the used records
-  laid : Laid trees t (store t (used t) (flat (used t) trees)) (used t) (used t + size trees)
+  pub laid : Laid trees t (store t (used t) (flat (used t) trees)) (used t) (used t + size trees)
   laid = record { place = refl; words = refl }
 
   -- inside the tape
-  inside : 4 + 6 * (used t + size trees) ≤ length t
+  pub inside : 4 + 6 * (used t + size trees) ≤ length t
   inside = let x = headed-in-order t good in omega (arith, x .long, x .fits)
 
   -- their records are there
@@ -56,19 +57,21 @@ module _ (t : List ℕ) (trees : Forest) (good : headed t ≡ true) (fits : size
   appended-other k past outside =
       getD-set-other (store t (used t) (flat (used t) trees)) 0 k (used t + size trees) 0 (omega arith) ∙ laid-other k laid outside
 
-  -- where they are sound, they leave trees where there were trees
-  pub appended-nests : Sound deepest trees → nestTest t ≡ true → nestTest (appended trees t) ≡ true
-  unfolding appended
-  appended-nests sound yes′ =
-      nested-yes (withUsed (used t + size trees) (store t (used t) (flat (used t) trees)))
-      (nested-laid t (store t (used t) (flat (used t) trees)) trees (used t + size trees) (yes-nested t yes′) (sound-depth deepest trees sound) (sound-formed deepest trees sound) laid inside)
-
 -- as many words as before
 pub length-appended : (t : List ℕ) (trees : Forest) → length (appended trees t) ≡ length t
 unfolding appended
 length-appended t trees = length-set (store t (used t) (flat (used t) trees)) 0 (used t + size trees) ∙ length-store (flat (used t) trees) t (used t)
 
 -- callIn, case by case
+
+-- a registry's number is small
+pub number-low : (registry : Registry) → numberOf registry ≤ lastRegistry
+number-low Neighbor = omega arith
+number-low Prefix = omega arith
+number-low RouterCapability = omega arith
+number-low Binding = omega arith
+number-low Srv6Sid = omega arith
+number-low Unregistered = omega arith
 
 -- 1: registry not 0 to 5
 pub call-1 : (shows : Walk) (registry : ℕ) (area : List ℕ) (base : ℕ) (t : List ℕ) → 6 ≤ registry → areaCall shows registry area base t ≡ refusal 1 t
@@ -113,3 +116,65 @@ module _ (shows : Walk) (registry : Registry) (area : List ℕ) (base : ℕ) (t 
             → areaCall shows (numberOf registry) area base t ≡ record { outcome = noRoom (size (shows (numberOf registry) area base)); lent = t }
         unfolding fitted
         call-5 less = accepted ∙ rw (lt-leb (size (shows (numberOf registry) area base)) (room t - used t) less)
+
+-- what holds of every refusal, of the refusal under 5, and of what is shown where no refusal holds, holds of the call
+module _ (P : After → Type 0) (shows : Walk) (area : List ℕ) (base : ℕ) (t : List ℕ)
+    (refuses : (answer : ℕ) → P (refusal answer t))
+    (lacks : (registry : Registry) → P (record { outcome = noRoom (size (shows (numberOf registry) area base)); lent = t }))
+    (finishes : (registry : Registry) → headed t ≡ true → size (shows (numberOf registry) area base) ≤ room t - used t → P (shown (covered area) (shows (numberOf registry) area base) t)) where
+  cases-fitted : (registry : Registry) → headed t ≡ true → P (fitted (covered area) (shows (numberOf registry) area base) t)
+  unfolding fitted
+  cases-fitted registry good = go (leb (size (shows (numberOf registry) area base)) (room t - used t)) refl
+    where
+      go : (b : Bool) → leb (size (shows (numberOf registry) area base)) (room t - used t) ≡ b
+          → P (cond b (shown (covered area) (shows (numberOf registry) area base) t) (record { outcome = noRoom (size (shows (numberOf registry) area base)); lent = t }))
+      go true fits = finishes registry good (leb-true _ _ fits)
+      go false less = lacks registry
+
+  cases-in : (found : Found) → P (callIn shows found area base t)
+  unfolding callIn
+  cases-in Unknown = refuses 1
+  cases-in (Known registry) = go (leb (length area) longest) (leb (base + length area) furthest) (headed t) refl
+    where
+      go : (a b c : Bool) → headed t ≡ c → P (cond a (cond b (cond c (fitted (covered area) (shows (numberOf registry) area base) t) (refusal 4 t)) (refusal 3 t)) (refusal 2 t))
+      go false b c is = refuses 2
+      go true false c is = refuses 3
+      go true true false is = refuses 4
+      go true true true is = cases-fitted registry is
+
+  pub call-cases : (registry : ℕ) → P (areaCall shows registry area base t)
+  call-cases registry = cases-in (registryOf registry)
+
+-- a call that is done: which registry it was, that no refusal holds, and what it gave and left
+pub record Done (shows : Walk) (registry : ℕ) (area : List ℕ) (base : ℕ) (t : List ℕ) : Type 0 where
+  pub known : registry ≤ lastRegistry
+  pub short : length area ≤ 65535
+  pub near : base + length area ≤ 4294967295
+  pub good : headed t ≡ true
+  pub fits : size (shows registry area base) ≤ room t - used t
+  pub is : areaCall shows registry area base t ≡ shown (covered area) (shows registry area base) t
+
+-- 0 only then
+module _ (shows : Walk) (area : List ℕ) (base : ℕ) (t : List ℕ) where
+  done-known : (registry : Registry) → areaCall shows (numberOf registry) area base t .outcome .answer ≡ 0 → Done shows (numberOf registry) area base t
+  done-known registry zero′ = go (decLe (length area) 65535) (decLe (base + length area) 4294967295) (headed t) refl (decLe (size (shows (numberOf registry) area base)) (room t - used t))
+    where
+      answer : {after : After} → areaCall shows (numberOf registry) area base t ≡ after → 0 ≡ after .outcome .answer
+      answer e = sym zero′ ∙ ap (λ (a : After). a .outcome .answer) e
+
+      go : Dec (length area ≤ 65535) → Dec (base + length area ≤ 4294967295) → (b : Bool) → headed t ≡ b → Dec (size (shows (numberOf registry) area base) ≤ room t - used t) → Done shows (numberOf registry) area base t
+      go (no long) near b is fits = absurd (omega (arith, answer (call-2 shows registry area base t (omega arith))))
+      go (yes short) (no far) b is fits = absurd (omega (arith, answer (call-3 shows registry area base t short (omega arith))))
+      go (yes short) (yes near) false is fits = absurd (omega (arith, answer (call-4 shows registry area base t short near is)))
+      go (yes short) (yes near) true is (no less) = absurd (omega (arith, answer (call-5 shows registry area base t short near is (omega arith))))
+      go (yes short) (yes near) true is (yes fits) =
+          record { known = number-low registry; short = short; near = near; good = is; fits = fits; is = call-0 shows registry area base t short near is fits }
+
+  pub call-done : (registry : ℕ) → areaCall shows registry area base t .outcome .answer ≡ 0 → Done shows registry area base t
+  call-done registry zero′ = go (decLe 6 registry)
+    where
+      go : Dec (6 ≤ registry) → Done shows registry area base t
+      go (yes past) = absurd (omega (arith, sym zero′ ∙ ap (λ (a : After). a .outcome .answer) (call-1 shows registry area base t past)))
+      go (no below) =
+          let n = numbered registry (omega arith) in
+          subst (λ (r : ℕ). Done shows r area base t) (n .1) (done-known (n .0) (ap (λ (r : ℕ). areaCall shows r area base t .outcome .answer) (n .1) ∙ zero′))

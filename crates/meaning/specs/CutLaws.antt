@@ -1,11 +1,11 @@
 -- Laws of cutting.
-use mathlib.Core.Path.{_≡_, refl, _∙_}
-use mathlib.Core.List.{List, [], _∷_, _++_}
+use mathlib.Core.Path.{_≡_, refl, sym, ap, _∙_}
+use mathlib.Core.List.{List, [], _∷_, _++_, append-assoc}
 use Prim.Native.Nat.{ℕ, zero, suc, pred, _+_, _≤_, _<_}
 use native.Mathlib.Nat.{add-zero, add-assoc}
 use native.Mathlib.Omega.{arith}
-use lib.ListN.{length, take, drop, length-take, length-drop}
-use lib.Seq.{take-append-le, take-append-seam, drop-append-le, drop-append-seam}
+use lib.ListN.{length, take, drop, length-take, length-drop, take-append-drop}
+use lib.Seq.{length-take-le, drop-drop, take-append-le, take-append-seam, drop-append-le, drop-append-seam}
 use Rattle.tape.specs.Forest.{Forest, none, _⧺_}
 use Rattle.tape.specs.ForestLaws.{⧺-assoc}
 use Rattle.meaning.specs.Cut.{Measure, inFront, piecesAfter, pieces, total, each}
@@ -27,6 +27,13 @@ pub total-++ : (ps qs : List (List ℕ)) → total (ps ++ qs) ≡ total ps + tot
 unfolding total
 total-++ [] qs = omega arith
 total-++ (p ∷ ps) qs = omega (arith, total-++ ps qs)
+
+-- joined
+
+-- the octets of pieces, one after the other
+abbrev pub joined : List (List ℕ) → List ℕ
+joined [] = []
+joined (p ∷ ps) = p ++ joined ps
 
 -- pieces
 
@@ -79,6 +86,32 @@ module _ (m : Measure) (fits : (xs : List ℕ) → m xs ≤ length xs) where
   pub total-le : (xs : List ℕ) → total (pieces m xs) ≤ length xs
   unfolding total
   total-le = pieces-ind (λ xs ps. total ps ≤ length xs) (λ xs e. omega arith) (λ xs h ih. omega (arith, length-take (m xs) xs, length-drop (m xs) xs, fits xs))
+
+  -- pieces, and what stands after them, are all there is
+  pub pieces-rejoined : (xs : List ℕ) → joined (pieces m xs) ++ drop (total (pieces m xs)) xs ≡ xs
+  unfolding total
+  pieces-rejoined = pieces-ind (λ xs ps. joined ps ++ drop (total ps) xs ≡ xs) (λ xs e. refl) step
+    where
+      step : (xs : List ℕ) → 0 < m xs → joined (pieces m (drop (m xs) xs)) ++ drop (total (pieces m (drop (m xs) xs))) (drop (m xs) xs) ≡ drop (m xs) xs
+          → (take (m xs) xs ++ joined (pieces m (drop (m xs) xs))) ++ drop (length (take (m xs) xs) + total (pieces m (drop (m xs) xs))) xs ≡ xs
+      step xs h ih =
+          let ps : List (List ℕ) = pieces m (drop (m xs) xs) in
+          append-assoc (take (m xs) xs) (joined ps) (drop (length (take (m xs) xs) + total ps) xs)
+          ∙ ap (λ (n : ℕ). take (m xs) xs ++ (joined ps ++ drop (n + total ps) xs)) (length-take-le (m xs) xs (fits xs))
+          ∙ ap (λ (l : List ℕ). take (m xs) xs ++ (joined ps ++ l)) (sym (drop-drop (total ps) (m xs) xs))
+          ∙ ap (λ (l : List ℕ). take (m xs) xs ++ l) ih
+          ∙ take-append-drop (m xs) xs
+
+  -- no piece stands after them
+  pub pieces-after : (xs : List ℕ) → m (drop (total (pieces m xs)) xs) ≡ 0
+  unfolding total
+  pieces-after = pieces-ind (λ xs ps. m (drop (total ps) xs) ≡ 0) (λ xs e. e) step
+    where
+      step : (xs : List ℕ) → 0 < m xs → m (drop (total (pieces m (drop (m xs) xs))) (drop (m xs) xs)) ≡ 0
+          → m (drop (length (take (m xs) xs) + total (pieces m (drop (m xs) xs))) xs) ≡ 0
+      step xs h ih =
+          let n : ℕ = total (pieces m (drop (m xs) xs)) in
+          ap (λ (k : ℕ). m (drop (k + n) xs)) (length-take-le (m xs) xs (fits xs)) ∙ ap m (sym (drop-drop n (m xs) xs)) ∙ ih
 
   -- octets behind do not change the piece in front
   module _ (more : (xs ys : List ℕ) → 0 < m xs → m (xs ++ ys) ≡ m xs) where

@@ -9,7 +9,7 @@ use lib.Dec.{leb}
 use lib.ListN.{length, getD, length-append, length-drop, List·getD-append}
 use lib.Seq.{drop-append-add, drop-length}
 use Rattle.meaning.specs.Cut.{piecesAfter, pieces, total}
-use Rattle.meaning.specs.CutLaws.{total-++, total-le, pieces-piece, pieces-++}
+use Rattle.meaning.specs.CutLaws.{total-++, joined, total-le, pieces-rejoined, pieces-after, pieces-piece, pieces-++}
 use Rattle.meaning.specs.Frame.{whole, entryLength, entries, covered, remainder, isRange, rangeLength}
 
 -- whole
@@ -76,6 +76,16 @@ covered-le = total-le entryLength entry-fits
 pub length-remainder : (area : List ℕ) → covered area + length (remainder area) ≡ length area
 unfolding remainder
 length-remainder area = omega (arith, length-drop (covered area) area, covered-le area)
+
+-- an area is its complete entries and the remainder ..
+pub area-rejoined : (area : List ℕ) → joined (entries area) ++ remainder area ≡ area
+unfolding remainder covered entries
+area-rejoined = pieces-rejoined entryLength entry-fits
+
+-- .. in front of which no complete entry stands
+pub remainder-stops : (area : List ℕ) → entryLength (remainder area) ≡ 0
+unfolding remainder covered entries
+remainder-stops = pieces-after entryLength entry-fits
 
 -- an area that is covered whole, and octets after it
 module _ (a b : List ℕ) (all : covered a ≡ length a) where

@@ -23,3 +23,6 @@ pub mod Unroll
 -- old records change nothing
 pub mod OldRecords
 pub mod OldRecordsLaws
+
+-- the calls, by the table's reading
+pub mod TheCalls

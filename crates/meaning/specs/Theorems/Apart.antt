@@ -4,7 +4,7 @@ use mathlib.Core.List.{List, _∷_, _++_, map}
 use Prim.Native.Nat.{ℕ, suc, _+_}
 use lib.ListN.{length}
 use Rattle.tape.specs.Record.{containerRecord, moved}
-use Rattle.tape.specs.Forest.{Forest, none, _⧺_, flat}
+use Rattle.tape.specs.Forest.{flat}
 use Rattle.tape.specs.declared.Record.{Record}
 use Rattle.meaning.specs.Label
 use Rattle.meaning.specs.Label.{number}
@@ -13,7 +13,7 @@ use Rattle.meaning.specs.Cut.{each}
 use Rattle.meaning.specs.Frame.{entries, covered, remainder}
 use Rattle.meaning.specs.FrameLaws.{entry}
 use Rattle.meaning.specs.Field.{Plan}
-use Rattle.meaning.specs.Tree.{content, raw}
+use Rattle.meaning.specs.Tree.{content}
 use Rattle.meaning.specs.Value.{Walk, pushBy}
 use Rattle.meaning.specs.Area.{entryTrees, walkTrees}
 

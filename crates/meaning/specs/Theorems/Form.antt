@@ -1,10 +1,10 @@
 -- The form of an area that demand 3 speaks of, and of two areas that differ in one value.
 use mathlib.Core.Path.{_≡_}
 use mathlib.Core.Logic.{_⊎_}
-use mathlib.Core.List.{List}
+use mathlib.Core.List.{List, _∷_, _++_}
 use Prim.Native.Nat.{ℕ, _+_, _≤_, _<_}
 use lib.ListN.{length, getD}
-use Rattle.meaning.specs.Frame.{entries, covered}
+use Rattle.meaning.specs.Frame.{entries, covered, remainder}
 use Rattle.meaning.specs.FrameLaws.{entry}
 use Rattle.meaning.specs.Field.{Plan}
 use Rattle.meaning.specs.Value.{Walk}
@@ -37,4 +37,11 @@ pub record Other (a′ pre post : List ℕ) (t : ℕ) (v : List ℕ) : Type 0 wh
 pub record OneEntry (e : Ending) (plan : Plan) (walk : Walk) (registry base at : ℕ) (a a′ : List ℕ) (ps : List (List ℕ)) (q : List ℕ) (us : List (List ℕ)) : Type 0 where
   pub stands : Stands a ps q us
   pub other : Other a′ (stands .pre) (stands .post) (stands .type) (stands .value)
+  -- entry count, covered octets and remainder agree
+  pub same-count : length (entries a) ≡ length (entries a′)
+  pub same-covered : covered a ≡ covered a′
+  pub same-remainder : remainder a ≡ remainder a′
+  -- the other entries are the same
+  pub same-entries : entries a′ ≡ ps ++ entry (stands .type) (other .value) ∷ us
+  -- and so are their records, those after the entry moved
   pub apart : Apart e plan walk registry base at (stands .pre) (stands .post) (stands .type) (stands .value) (other .value)

@@ -12,12 +12,12 @@ use lib.ListN.{length, getD, take, drop, length-append, length-drop, take-append
 use lib.Seq.{length-take-le, getD-take, getD-drop, ext-getD, getD-append-add}
 use Rattle.meaning.specs.Cut.{total}
 use Rattle.meaning.specs.CutLaws.{pieces-stop, pieces-step}
-use Rattle.meaning.specs.Frame.{entryLength, entries, covered}
+use Rattle.meaning.specs.Frame.{entryLength, entries, covered, remainder}
 use Rattle.meaning.specs.FrameLaws.{passed, entry, entry-fits, entries-none, covered-none, entries-entry, covered-entry}
 use Rattle.meaning.specs.Field.{Plan}
 use Rattle.meaning.specs.Value.{Walk}
-use Rattle.meaning.specs.Theorems.Apart.{Ending, with}
-use Rattle.meaning.specs.Theorems.ApartLaws.{apart}
+use Rattle.meaning.specs.Theorems.Apart.{Ending, with, Apart}
+use Rattle.meaning.specs.Theorems.ApartLaws.{entries-with, apart}
 use Rattle.meaning.specs.Theorems.Form.{Stands, Differ, Other, OneEntry}
 
 -- every complete entry stands so
@@ -149,4 +149,17 @@ one-entry e plan walk registry base at a a′ ps q us found d =
     let place = value-place a ps q us s in
     let d′ : Differ (with (s .pre) (s .post) (s .type) (s .value)) a′ (length (s .pre) + 2) (length (s .value)) = rw (← s .all, place .0, place .1) d in
     let other : Other a′ (s .pre) (s .post) (s .type) (s .value) = differs (s .pre) (s .post) (s .type) (s .value) a′ d′ in
-    record { stands = s; other = other; apart = apart e plan walk registry base at (s .pre) (s .post) (s .type) (s .whole) (s .value) (other .value) (other .same-length) }
+    let x : Apart e plan walk registry base at (s .pre) (s .post) (s .type) (s .value) (other .value) = apart e plan walk registry base at (s .pre) (s .post) (s .type) (s .whole) (s .value) (other .value) (other .same-length) in
+    record {
+      stands = s;
+      other = other;
+      same-count = ap (λ (l : List ℕ). length (entries l)) (s .all) ∙ x .same-count ∙ sym (ap (λ (l : List ℕ). length (entries l)) (other .all));
+      same-covered = ap covered (s .all) ∙ x .same-covered ∙ sym (ap covered (other .all));
+      same-remainder = ap remainder (s .all) ∙ x .same-remainder ∙ sym (ap remainder (other .all));
+      same-entries =
+          ap entries (other .all)
+          ∙ entries-with (s .pre) (s .post) (s .whole) (s .type) (other .value)
+          ∙ ap (λ (l : List (List ℕ)). l ++ entry (s .type) (other .value) ∷ entries (s .post)) (s .earlier)
+          ∙ ap (λ (l : List (List ℕ)). ps ++ entry (s .type) (other .value) ∷ l) (s .later);
+      apart = x;
+    }

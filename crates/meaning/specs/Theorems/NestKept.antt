@@ -1,67 +1,39 @@
 -- Where the nest test says yes before a walk or push, it says yes after.
-use mathlib.Core.Path.{_≡_, refl}
-use mathlib.Core.Bool.{Bool, true, false, cond}
+use mathlib.Core.Path.{_≡_}
+use mathlib.Core.Bool.{true}
 use mathlib.Core.List.{List}
 use Prim.Native.Nat.{ℕ, _+_, _-_, _≤_}
-use native.Mathlib.Omega.{arith}
-use borrow.Author.Tests.{leb-true}
-use lib.Dec.{leb}
-use lib.ListN.{length}
-use Rattle.outcome.specs.Call.{refusal, noRoom}
-use Rattle.registry.specs.Registry.{numberOf, registryOf}
-use Rattle.registry.specs.declared.Registry.{Registry}
-use Rattle.registry.specs.declared.Registry.the-variants.{Neighbor, Prefix, RouterCapability, Binding, Srv6Sid, Unregistered}
-use Rattle.registry.specs.declared.Found.{Found}
-use Rattle.registry.specs.declared.Found.the-variants.{Known, Unknown}
+use Rattle.outcome.specs.Call.{After}
+use Rattle.registry.specs.Registry.{numberOf}
 use Rattle.tape.specs.Limits.{lastRegistry, deepest}
-use Rattle.tape.specs.Tape.{used, room, headed}
-use Rattle.tape.specs.Forest.{Forest, size}
+use Rattle.tape.specs.Tape.{used, room, headed, withUsed, store}
+use Rattle.tape.specs.Forest.{Forest, size, flat}
 use Rattle.tape.specs.Nest.{nestTest}
-use Rattle.meaning.specs.Frame.{covered}
+use Rattle.tape.specs.WellNestedLaws.{yes-nested, nested-yes, nested-laid}
 use Rattle.meaning.specs.Table.{usual}
 use Rattle.meaning.specs.Value.{Walk}
 use Rattle.meaning.specs.Area.{walked, pushed}
-use Rattle.meaning.specs.AreaCall.{longest, furthest, shown, fitted, callIn, areaCall, walkCall, pushCall}
-use Rattle.meaning.specs.AreaCallLaws.{appended-nests}
+use Rattle.meaning.specs.AreaCall.{appended, areaCall, walkCall, pushCall}
+use Rattle.meaning.specs.AreaCallLaws.{laid, inside, number-low, call-cases}
 use Rattle.meaning.specs.Theorems.PlanLaws.{usual-flat}
 use Rattle.meaning.specs.Theorems.Sound.{Sound}
+use Rattle.meaning.specs.Theorems.SoundLaws.{sound-depth, sound-formed}
 use Rattle.meaning.specs.Theorems.SoundWalk.{sound-walked, sound-pushed}
 
--- a registry's number is small
-number-low : (registry : Registry) → numberOf registry ≤ lastRegistry
-number-low Neighbor = omega arith
-number-low Prefix = omega arith
-number-low RouterCapability = omega arith
-number-low Binding = omega arith
-number-low Srv6Sid = omega arith
-number-low Unregistered = omega arith
+-- trees for which there is room, and that are sound, leave trees where there were trees
+appended-nests : (t : List ℕ) (trees : Forest) (good : headed t ≡ true) (fits : size trees ≤ room t - used t) → Sound deepest trees → nestTest t ≡ true → nestTest (appended trees t) ≡ true
+unfolding appended
+appended-nests t trees good fits sound yes′ =
+    nested-yes (withUsed (used t + size trees) (store t (used t) (flat (used t) trees)))
+    (nested-laid t (store t (used t) (flat (used t) trees)) trees (used t + size trees) (yes-nested t yes′) (sound-depth deepest trees sound) (sound-formed deepest trees sound) (laid t trees good fits) (inside t trees good fits))
 
 -- where the nest test says yes before a call that shows sound trees, it says yes of what the call leaves
-module _ (shows : Walk) (sound : (registry : ℕ) (area : List ℕ) (base : ℕ) → registry ≤ lastRegistry → Sound deepest (shows registry area base)) (t : List ℕ) (yes′ : nestTest t ≡ true) where
-  keeps-fitted : (octets : ℕ) (trees : Forest) → Sound deepest trees → headed t ≡ true → nestTest (fitted octets trees t .lent) ≡ true
-  unfolding fitted
-  keeps-fitted octets trees x good = go (leb (size trees) (room t - used t)) refl
-    where
-      go : (b : Bool) → leb (size trees) (room t - used t) ≡ b → nestTest (cond b (shown octets trees t) (record { outcome = noRoom (size trees); lent = t }) .lent) ≡ true
-      go true fits = appended-nests t trees good (leb-true _ _ fits) x yes′
-      go false less = yes′
-
-  keeps-in : (found : Found) (area : List ℕ) (base : ℕ) → nestTest (callIn shows found area base t .lent) ≡ true
-  unfolding callIn
-  keeps-in Unknown area base = yes′
-  keeps-in (Known registry) area base = go (leb (length area) longest) (leb (base + length area) furthest) (headed t) refl
-    where
-      trees : Forest
-      trees = shows (numberOf registry) area base
-
-      go : (a b c : Bool) → headed t ≡ c → nestTest (cond a (cond b (cond c (fitted (covered area) trees t) (refusal 4 t)) (refusal 3 t)) (refusal 2 t) .lent) ≡ true
-      go false b c is = yes′
-      go true false c is = yes′
-      go true true false is = yes′
-      go true true true is = keeps-fitted (covered area) trees (sound (numberOf registry) area base (number-low registry)) is
-
-  pub call-keeps : (registry : ℕ) (area : List ℕ) (base : ℕ) → nestTest (areaCall shows registry area base t .lent) ≡ true
-  call-keeps registry area base = keeps-in (registryOf registry) area base
+call-keeps : (shows : Walk) → ((registry : ℕ) (area : List ℕ) (base : ℕ) → registry ≤ lastRegistry → Sound deepest (shows registry area base))
+    → (t : List ℕ) → nestTest t ≡ true → (registry : ℕ) (area : List ℕ) (base : ℕ) → nestTest (areaCall shows registry area base t .lent) ≡ true
+call-keeps shows sound t yes′ registry area base =
+    call-cases (λ (after : After). nestTest (after .lent) ≡ true) shows area base t (λ answer. yes′) (λ known. yes′)
+    (λ known good fits. appended-nests t (shows (numberOf known) area base) good fits (sound (numberOf known) area base (number-low known)) yes′)
+    registry
 
 -- the tape that any result leaves which meets the call's contract
 

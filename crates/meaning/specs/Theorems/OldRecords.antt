@@ -3,7 +3,7 @@ use mathlib.Core.Path.{_≡_}
 use mathlib.Core.Logic.{_⊎_}
 use mathlib.Core.List.{List}
 use Prim.Native.Nat.{ℕ, _+_, _*_, _≤_, _<_}
-use lib.ListN.{getD, take}
+use lib.ListN.{length, getD, take}
 use Rattle.outcome.specs.Call.{After}
 use Rattle.tape.specs.Tape.{used, room, load}
 
@@ -12,9 +12,10 @@ pub record Alike (t u : List ℕ) : Type 0 where
   pub header : take 4 t ≡ take 4 u
   pub space : room t ≡ room u
 
--- every word outside the header and the new records is as before
-abbrev pub Untouched : List ℕ → After → Type 0
-Untouched t after = (k : ℕ) → 4 ≤ k → (k < 4 + 6 * used t) ⊎ (4 + 6 * (used t + after .outcome .written) ≤ k) → getD (after .lent) k 0 ≡ getD t k 0
+-- as many words as before, and every word but word 0 and those of the new records is as before
+pub record Untouched (t : List ℕ) (after : After) : Type 0 where
+  pub same-length : length (after .lent) ≡ length t
+  pub others : (k : ℕ) → 1 ≤ k → (k < 4 + 6 * used t) ⊎ (4 + 6 * (used t + after .outcome .written) ≤ k) → getD (after .lent) k 0 ≡ getD t k 0
 
 -- what a call gives and leaves, on the one tape and on the other
 pub record Unmoved (t u : List ℕ) (one other : After) : Type 0 where

@@ -21,7 +21,11 @@ use Rattle.meaning.specs.Frame.{covered}
 use Rattle.meaning.specs.Value.{Walk}
 use Rattle.meaning.specs.AreaCall.{longest, furthest, appended, shown, fitted, callIn, areaCall}
 use Rattle.meaning.specs.AreaCallLaws.{appended-used, appended-load, appended-other, length-appended}
-use Rattle.meaning.specs.Theorems.OldRecords.{Alike, Unmoved}
+use Rattle.meaning.specs.Theorems.OldRecords.{Alike, Untouched, Unmoved}
+
+-- what is left as it was
+kept : {t : List ℕ} {o : Outcome} → Untouched t (record { outcome = o; lent = t })
+kept = record { same-length = refl; others = λ k past outside. refl }
 
 -- equal headers
 
@@ -50,7 +54,7 @@ module _ (t u : List ℕ) (alike : Alike t u) where
   unmoved-refused : (o : Outcome) → o .written ≡ 0 → Unmoved t u (record { outcome = o; lent = t }) (record { outcome = o; lent = u })
   unfolding load
   unmoved-refused o nothing =
-      record { same-outcome = refl; same-header = alike .header; same-records = rw nothing refl; untouched = λ k past outside. refl; untouched′ = λ k past outside. refl }
+      record { same-outcome = refl; same-header = alike .header; same-records = rw nothing refl; untouched = kept; untouched′ = kept }
 
   -- trees for which there is room
   module _ (trees : Forest) (good : headed t ≡ true) (fits : size trees ≤ room t - used t) where
@@ -81,8 +85,8 @@ module _ (t u : List ℕ) (alike : Alike t u) where
           same-outcome = refl;
           same-header = headers;
           same-records = appended-load t trees good fits ∙ ap (λ (p : ℕ). flat p trees) same-used ∙ sym (appended-load u trees good′ fits′);
-          untouched = λ k past outside. appended-other t trees good fits k (omega arith) outside;
-          untouched′ = λ k past outside. appended-other u trees good′ fits′ k (omega arith) outside;
+          untouched = record { same-length = length-appended t trees; others = appended-other t trees good fits };
+          untouched′ = record { same-length = length-appended u trees; others = appended-other u trees good′ fits′ };
         }
 
   unmoved-fitted : (octets : ℕ) (trees : Forest) → headed t ≡ true → Unmoved t u (fitted octets trees t) (fitted octets trees u)

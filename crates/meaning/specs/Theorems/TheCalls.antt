@@ -1,0 +1,65 @@
+-- What holds of the calls walk and push, by the table's reading, on every input.
+use mathlib.Core.Path.{_≡_, ap}
+use mathlib.Core.List.{List}
+use Prim.Native.Nat.{ℕ, _+_, _*_, _/_, _≤_, _<_}
+use native.Mathlib.Omega.{arith}
+use lib.ListN.{length}
+use Rattle.outcome.specs.Call.{After, done}
+use Rattle.tape.specs.Tape.{used, recordAt}
+use Rattle.tape.specs.Forest.{size}
+use Rattle.tape.specs.Calls.{readCall}
+use Rattle.registry.specs.Registry.{numberOf}
+use Rattle.tape.specs.Limits.{lastRegistry}
+use Rattle.meaning.specs.Table.{usual}
+use Rattle.meaning.specs.Value.{Walk}
+use Rattle.meaning.specs.Area.{walkTrees, walked, pushed}
+use Rattle.meaning.specs.AreaCall.{areaCall, walkCall, pushCall}
+use Rattle.meaning.specs.AreaCallLaws.{call-cases, call-done}
+use Rattle.meaning.specs.Theorems.PlanLaws.{usual-flat, usual-sparing}
+use Rattle.meaning.specs.Theorems.Sound.{Sound}
+use Rattle.meaning.specs.Theorems.SoundWalk.{sound-walked, sound-pushed}
+use Rattle.meaning.specs.Theorems.Bound.{needed-walked, needed-pushed}
+use Rattle.meaning.specs.Theorems.Unroll.{walked-again}
+use Rattle.meaning.specs.Theorems.ReadBack.{read-back}
+
+-- needed
+
+call-needed : (shows : Walk) (n : ℕ) (area : List ℕ) (base : ℕ) → ((registry : ℕ) → size (shows registry area base) ≤ n) → (registry : ℕ) (t : List ℕ) → areaCall shows registry area base t .outcome .needed ≤ n
+call-needed shows n area base small registry t =
+    call-cases (λ (after : After). after .outcome .needed ≤ n) shows area base t (λ answer. omega arith) (λ known. small (numberOf known)) (λ known good fits. small (numberOf known)) registry
+
+-- at most 1 + floor(7n / 3)
+pub walk-needed : (registry : ℕ) (area : List ℕ) (base : ℕ) (t : List ℕ) → walkCall registry area base t .outcome .needed ≤ 1 + 7 * length area / 3
+walk-needed registry area base t = call-needed (walked usual) (1 + 7 * length area / 3) area base (λ r. needed-walked usual usual-sparing r area base) registry t
+
+pub push-needed : (registry : ℕ) (area : List ℕ) (base : ℕ) (t : List ℕ) → pushCall registry area base t .outcome .needed ≤ 1 + 7 * length area / 3
+push-needed registry area base t = call-needed (pushed usual) (1 + 7 * length area / 3) area base (λ r. needed-pushed usual usual-sparing r area base) registry t
+
+-- the recursion
+
+-- a walk decodes an entry, and an entry walks again
+pub walk-again : (registry : ℕ) (area : List ℕ) (base : ℕ) → walked usual registry area base ≡ walkTrees usual (walked usual) registry area base
+walk-again = walked-again usual usual-flat
+
+-- read
+
+-- after a call that is done, read gives back each new record
+call-read : (shows : Walk) → ((registry : ℕ) (area : List ℕ) (base : ℕ) → registry ≤ lastRegistry → Sound 4 (shows registry area base))
+    → (registry : ℕ) (area : List ℕ) (base : ℕ) (t : List ℕ) → areaCall shows registry area base t .outcome .answer ≡ 0
+    → (i : ℕ) → used t ≤ i → i < used t + areaCall shows registry area base t .outcome .written
+    → readCall (areaCall shows registry area base t .lent) i ≡ record { outcome = done; «record» = recordAt (areaCall shows registry area base t .lent) i }
+call-read shows sound registry area base t zero i from below =
+    let x = call-done shows area base t registry zero in
+    let left = ap (λ (after : After). after .lent) (x .is) in
+    let written = ap (λ (after : After). after .outcome .written) (x .is) in
+    rw left (read-back t (shows registry area base) (x .good) (x .fits) 4 (sound registry area base (x .known)) i from (omega (arith, written)))
+
+pub walk-read : (registry : ℕ) (area : List ℕ) (base : ℕ) (t : List ℕ) → walkCall registry area base t .outcome .answer ≡ 0
+    → (i : ℕ) → used t ≤ i → i < used t + walkCall registry area base t .outcome .written
+    → readCall (walkCall registry area base t .lent) i ≡ record { outcome = done; «record» = recordAt (walkCall registry area base t .lent) i }
+walk-read = call-read (walked usual) (sound-walked usual usual-flat)
+
+pub push-read : (registry : ℕ) (area : List ℕ) (base : ℕ) (t : List ℕ) → pushCall registry area base t .outcome .answer ≡ 0
+    → (i : ℕ) → used t ≤ i → i < used t + pushCall registry area base t .outcome .written
+    → readCall (pushCall registry area base t .lent) i ≡ record { outcome = done; «record» = recordAt (pushCall registry area base t .lent) i }
+push-read = call-read (pushed usual) (sound-pushed usual usual-flat)
