@@ -14,6 +14,9 @@ pub mod SoundLaws
 pub mod SoundWalk
 pub mod NestKept
 pub mod ReadBack
+-- every record lies inside its container
+pub mod Inside
+
 -- needed records: any base, the bound, and that it is attained
 pub mod Size
 pub mod Bound

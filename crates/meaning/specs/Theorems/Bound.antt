@@ -62,13 +62,13 @@ push-bound walk registry area base small = rw size-⧺ (omega (arith, size-raw-l
 
 -- elements
 
-element-fits : (element : Element) (xs : List ℕ) → elementLength element xs ≤ length xs
+pub element-fits : (element : Element) (xs : List ℕ) → elementLength element xs ≤ length xs
 element-fits (numbers label shape width) xs = whole-fits width xs
 element-fits msds xs = whole-fits 2 xs
 element-fits ranges xs = range-fits xs
 
 -- a range has at least 5 octets
-range-least : (xs : List ℕ) → 0 < rangeLength xs → 5 ≤ rangeLength xs
+pub range-least : (xs : List ℕ) → 0 < rangeLength xs → 5 ≤ rangeLength xs
 unfolding rangeLength
 range-least xs some =
     let is : isRange xs ≡ true = passed (isRange xs) (whole (5 + getD xs 4 0) xs) some in
@@ -100,7 +100,7 @@ sid-ends v at inside = go (decLe (at + 4) (length v))
         let three : length v ≡ at + 3 = omega arith in
         (omega (arith, sid-three-end v at three), omega (arith, sid-three-end v at three))
 
-span-inside : (span : Span) (v : List ℕ) → startOf span ≤ length v → startOf span + length (octetsIn span v) ≤ length v
+pub span-inside : (span : Span) (v : List ℕ) → startOf span ≤ length v → startOf span + length (octetsIn span v) ≤ length v
 span-inside (from at) v inside = omega (arith, length-drop at v)
 span-inside (first n) v inside = omega (arith, length-take n v)
 
@@ -113,7 +113,7 @@ tail-inside v at inside = go (innerFits v at) refl
     go false e = inside
 
 -- an entry has at least its type and its length
-entry-least : (xs : List ℕ) → 0 < entryLength xs → 2 ≤ entryLength xs
+pub entry-least : (xs : List ℕ) → 0 < entryLength xs → 2 ≤ entryLength xs
 unfolding entryLength
 entry-least xs some = omega (arith, whole-is (suc (suc (getD xs 1 0))) xs some)
 

@@ -51,6 +51,20 @@ need (array label span element) = startOf span
 need (tail at) = lengthAt at
 need (push at) = at
 
+-- a reading whose fields lie inside the value
+abbrev pub Fitting : Plan → Type 0
+Fitting plan = (registry t : ℕ) (v : List ℕ) → Every (λ (f : Field). need f ≤ length v) (plan registry t v)
+
+-- fields inside n octets
+abbrev pub areInside : ℕ → List Field → Bool
+areInside n [] = true
+areInside n (f ∷ fs) = leb (need f) n && areInside n fs
+
+-- rows that give such a reading
+abbrev pub rowsInside : List Row → Bool
+rowsInside [] = true
+rowsInside (row registry t least fields ∷ rows) = areInside least fields && rowsInside rows
+
 -- fields, k others before them, that lie inside n octets and show few records for the octets that they ask for; only the last is not plain
 abbrev pub areSparing : ℕ → ℕ → List Field → Bool
 areSparing n k [] = true

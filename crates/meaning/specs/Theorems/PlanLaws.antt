@@ -2,7 +2,7 @@
 use mathlib.Core.Path.{_≡_, refl, sym, ap, _∙_}
 use mathlib.Core.Bool.{Bool, true, false, _&&_, cond}
 use mathlib.Core.List.{List, [], _∷_}
-use Prim.Native.Nat.{ℕ}
+use Prim.Native.Nat.{ℕ, _≤_}
 use native.Mathlib.Omega.{arith}
 use borrow.Author.Tests.{leb-true, eqb-true}
 use lib.Dec.{leb, eqb}
@@ -10,7 +10,7 @@ use lib.ListN.{length}
 use Rattle.tape.specs.Both.{both}
 use Rattle.meaning.specs.Field.{Field, Row, row}
 use Rattle.meaning.specs.Table.{table, fieldsOf, usual}
-use Rattle.meaning.specs.Theorems.Plan.{isInner, isPlain, allPlain, Every, Flat, rowsFlat, areSparing, Spare, Sparing, rowsSparing}
+use Rattle.meaning.specs.Theorems.Plan.{isInner, isPlain, allPlain, Every, Flat, rowsFlat, need, Fitting, areInside, rowsInside, areSparing, Spare, Sparing, rowsSparing}
 
 -- what holds of any field holds of each
 pub every : (P : Field → Type 0) → ((f : Field) → P f) → (fs : List Field) → Every P fs
@@ -24,7 +24,7 @@ every-plain P x (f ∷ fs) plain =
     let p = both (isPlain f) (allPlain fs) plain in
     (x f (p .0), every-plain P x fs (p .1))
 
--- rows that pass the test give fields that pass it
+-- rows that pass the test of containers give fields that pass it
 rows-flat : (rows : List Row) → rowsFlat rows ≡ true → (registry t n : ℕ) → isInner registry ≡ true → allPlain (fieldsOf rows registry t n) ≡ true
 unfolding fieldsOf
 rows-flat [] pass registry t n inside = refl
@@ -44,7 +44,33 @@ pub usual-flat : Flat usual
 unfolding usual table
 usual-flat registry t v inside = rows-flat table refl registry t (length v) inside
 
--- rows that pass the other test
+-- fields inside some octets are inside more
+inside-more : (least n : ℕ) → least ≤ n → (fs : List Field) → areInside least fs ≡ true → Every (λ (f : Field). need f ≤ n) fs
+inside-more least n more [] pass = tt
+inside-more least n more (f ∷ fs) pass =
+    let x = both (leb (need f) least) (areInside least fs) pass in
+    (omega (arith, leb-true (need f) least (x .0)), inside-more least n more fs (x .1))
+
+-- rows that pass the test of places
+rows-inside : (rows : List Row) → rowsInside rows ≡ true → (registry t n : ℕ) → Every (λ (f : Field). need f ≤ n) (fieldsOf rows registry t n)
+unfolding fieldsOf
+rows-inside [] pass registry t n = tt
+rows-inside (row registry′ t′ least fields ∷ rows) pass registry t n =
+    let x = both (areInside least fields) (rowsInside rows) pass in
+    go (eqb registry registry′) (eqb t t′) (leb least n) refl (x .0) (rows-inside rows (x .1) registry t n)
+  where
+    go : (a b c : Bool) → leb least n ≡ c → areInside least fields ≡ true → Every (λ (f : Field). need f ≤ n) (fieldsOf rows registry t n)
+        → Every (λ (f : Field). need f ≤ n) (cond (a && (b && c)) fields (fieldsOf rows registry t n))
+    go true true true long here later = inside-more least n (leb-true least n long) fields here
+    go true true false long here later = later
+    go true false c long here later = later
+    go false b c long here later = later
+
+pub usual-fitting : Fitting usual
+unfolding usual table
+usual-fitting registry t v = rows-inside table refl registry t (length v)
+
+-- rows that pass the test of records
 rows-sparing : (rows : List Row) → rowsSparing rows ≡ true → (registry t n : ℕ) → Spare (fieldsOf rows registry t n) n
 unfolding fieldsOf
 rows-sparing [] pass registry t n = record { least = 0; inside = omega arith; few = refl }
