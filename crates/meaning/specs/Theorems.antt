@@ -8,6 +8,8 @@ pub mod FormLaws
 -- what is asked of a reading
 pub mod Plan
 pub mod PlanLaws
+-- what holds of each record of a list
+pub mod EachRecord
 -- every record is one that can be read, and the records nest
 pub mod Sound
 pub mod SoundLaws
@@ -16,7 +18,6 @@ pub mod NestKept
 pub mod ReadBack
 -- every record lies inside its container
 pub mod Inside
-
 -- needed records: any base, the bound, and that it is attained
 pub mod Size
 pub mod Bound
@@ -26,6 +27,5 @@ pub mod Unroll
 -- old records change nothing
 pub mod OldRecords
 pub mod OldRecordsLaws
-
 -- the calls, by the table's reading
 pub mod TheCalls

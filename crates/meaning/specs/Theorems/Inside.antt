@@ -1,8 +1,8 @@
 -- Every record lies inside its container, and so inside the area.
-use mathlib.Core.Path.{_≡_, refl, sym, ap}
+use mathlib.Core.Path.{_≡_, refl}
 use mathlib.Core.Bool.{Bool, true, false, cond}
 use mathlib.Core.List.{List, [], _∷_}
-use Prim.Native.Nat.{ℕ, _+_, _-_, _≤_, _<_}
+use Prim.Native.Nat.{ℕ, suc, _+_, _-_, _≤_, _<_}
 use native.Mathlib.Decide.{decLe}
 use native.Mathlib.Omega.{arith}
 use borrow.Author.Tests.{leb-true}
@@ -10,14 +10,15 @@ use lib.ListN.{length, getD, take, drop, length-take, length-drop}
 use lib.Seq.{length-take-le}
 use Rattle.registry.specs.Registry.{numberOf}
 use Rattle.registry.specs.declared.Registry.the-variants.{Srv6Sid, Unregistered}
-use Rattle.tape.specs.Forest.{Forest, none, leaf, node, _⧺_}
+use Rattle.tape.specs.Forest.{Forest, none, leaf, node, size, _⧺_, flat}
+use Rattle.tape.specs.declared.Record.{Record}
 use Rattle.meaning.specs.Label
 use Rattle.meaning.specs.Label.{Label}
 use Rattle.meaning.specs.Shape.{Shape, u8, ipv6, bytes}
 use Rattle.meaning.specs.Cut.{Measure, pieces, total, each}
 use Rattle.meaning.specs.CutLaws.{pieces-ind, total-le}
-use Rattle.meaning.specs.Frame.{whole, entryLength, entries, covered, remainder, rangeLength}
-use Rattle.meaning.specs.FrameLaws.{whole-is, entry-fits, covered-le, length-remainder}
+use Rattle.meaning.specs.Frame.{entryLength, entries, covered, remainder, rangeLength}
+use Rattle.meaning.specs.FrameLaws.{whole-is, entry-fits}
 use Rattle.meaning.specs.Field.{Element, numbers, msds, ranges, Field, part, flag, sid, array, tail, push, Plan}
 use Rattle.meaning.specs.Tree.{one, raw}
 use Rattle.meaning.specs.Sid.{sidTrees}
@@ -27,6 +28,7 @@ use Rattle.meaning.specs.Tail.{lengthAt, innerFits, inner}
 use Rattle.meaning.specs.Value.{taken, Walk, pushBy, fieldTrees, fieldsTrees, valueTrees}
 use Rattle.meaning.specs.Area.{entryTrees, walkTrees, noWalk, innerWalk, walked, pushed}
 use Rattle.meaning.specs.Theorems.Plan.{Every, need, Fitting}
+use Rattle.meaning.specs.Theorems.EachRecord.{EachRecord, each-record-++}
 use Rattle.meaning.specs.Theorems.Bound.{element-fits, range-least, entry-least, span-inside}
 
 -- every record is inside the octets from lo up to hi, and inside its container
@@ -167,7 +169,7 @@ module _ (plan : Plan) (fitting : Fitting plan) where
         let v : List ℕ = drop 2 e in
         let fields = plan registry (getD e 0 0) v in
         let value′ = within-wider (at + 2) at (at + 2 + length v) (at + length e) (omega arith) (omega (arith, length-drop 2 e)) (valueTrees walk registry v (at + 2) fields)
-            (within-value walk inside registry v (at + 2) fields (fitting registry (getD e 0 0) v)) in
+        (within-value walk inside registry v (at + 2) fields (fitting registry (getD e 0 0) v)) in
         (omega arith, (omega arith, ((omega arith, (omega arith, (omega arith, (omega arith, value′)))), tt)))
 
     within-walk : (area : List ℕ) (base : ℕ) → Within base (base + length area) (walkTrees plan walk registry area base)
@@ -190,3 +192,20 @@ module _ (plan : Plan) (fitting : Fitting plan) where
   pub inside-pushed : (registry : ℕ) (area : List ℕ) (base : ℕ) → Within base (base + length area) (pushed plan registry area base)
   unfolding pushed
   inside-pushed registry area base = within-push (walked plan) registry area base (inside-walked registry area base)
+
+-- on the tape
+
+-- a record inside the octets from lo up to hi
+abbrev pub Inside : ℕ → ℕ → Record → Type 0
+Inside lo hi r = (lo ≤ r .start .0) × (r .end .0 ≤ hi)
+
+pub within-each : (lo hi : ℕ) (f : Forest) → Within lo hi f → (at : ℕ) → EachRecord (Inside lo hi) (flat at f)
+unfolding Within flat
+within-each lo hi none x at = tt
+within-each lo hi (leaf m f) x at = ((x .0, x .1 .0), within-each lo hi f (x .1 .1) (suc at))
+within-each lo hi (node m k f) x at = (
+  (x .0, x .1 .0),
+  each-record-++ (Inside lo hi) (flat (suc at) k) (flat (suc at + size k) f)
+      (within-each lo hi k (within-wider (m .start .0) lo (m .end .0) hi (x .0) (x .1 .0) k (x .1 .1 .0)) (suc at))
+      (within-each lo hi f (x .1 .1 .1) (suc at + size k)),
+)

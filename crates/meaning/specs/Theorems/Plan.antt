@@ -65,7 +65,7 @@ abbrev pub rowsInside : List Row → Bool
 rowsInside [] = true
 rowsInside (row registry t least fields ∷ rows) = areInside least fields && rowsInside rows
 
--- fields, k others before them, that lie inside n octets and show few records for the octets that they ask for; only the last is not plain
+-- fields, k others before them, of which only the last is not plain, lies inside n octets, and asks for enough of them. An entry has 2 octets and 3 records beside those of its value, so a value of m octets may show (5 + 7m) / 3 records, where the entry is to show 7 for 3 octets
 abbrev pub areSparing : ℕ → ℕ → List Field → Bool
 areSparing n k [] = true
 areSparing n k (f ∷ []) = leb (need f) n && leb (3 * suc k) (5 + 7 * need f)

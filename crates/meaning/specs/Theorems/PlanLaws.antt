@@ -7,10 +7,22 @@ use native.Mathlib.Omega.{arith}
 use borrow.Author.Tests.{leb-true, eqb-true}
 use lib.Dec.{leb, eqb}
 use lib.ListN.{length}
+use Rattle.registry.specs.Registry.{numberOf, isNested}
+use Rattle.registry.specs.declared.Registry.{Registry}
+use Rattle.registry.specs.declared.Registry.the-variants.{Neighbor, Prefix, RouterCapability, Binding, Srv6Sid, Unregistered}
 use Rattle.tape.specs.Both.{both}
 use Rattle.meaning.specs.Field.{Field, Row, row}
 use Rattle.meaning.specs.Table.{table, fieldsOf, usual}
 use Rattle.meaning.specs.Theorems.Plan.{isInner, isPlain, allPlain, Every, Flat, rowsFlat, need, Fitting, areInside, rowsInside, areSparing, Spare, Sparing, rowsSparing}
+
+-- the registries of areas inside a value are those of the nested level
+pub inner-nested : (registry : Registry) → isInner (numberOf registry) ≡ isNested registry
+inner-nested Neighbor = refl
+inner-nested Prefix = refl
+inner-nested RouterCapability = refl
+inner-nested Binding = refl
+inner-nested Srv6Sid = refl
+inner-nested Unregistered = refl
 
 -- what holds of any field holds of each
 pub every : (P : Field → Type 0) → ((f : Field) → P f) → (fs : List Field) → Every P fs

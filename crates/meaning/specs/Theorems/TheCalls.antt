@@ -5,7 +5,7 @@ use Prim.Native.Nat.{ℕ, _+_, _*_, _/_, _≤_, _<_}
 use native.Mathlib.Omega.{arith}
 use lib.ListN.{length}
 use Rattle.outcome.specs.Call.{After, done}
-use Rattle.tape.specs.Tape.{used, recordAt}
+use Rattle.tape.specs.Tape.{used, recordAt, load}
 use Rattle.tape.specs.Forest.{size}
 use Rattle.tape.specs.Calls.{readCall}
 use Rattle.registry.specs.Registry.{numberOf}
@@ -13,11 +13,13 @@ use Rattle.tape.specs.Limits.{lastRegistry}
 use Rattle.meaning.specs.Table.{usual}
 use Rattle.meaning.specs.Value.{Walk}
 use Rattle.meaning.specs.Area.{walkTrees, walked, pushed}
-use Rattle.meaning.specs.AreaCall.{areaCall, walkCall, pushCall}
-use Rattle.meaning.specs.AreaCallLaws.{call-cases, call-done}
-use Rattle.meaning.specs.Theorems.PlanLaws.{usual-flat, usual-sparing}
+use Rattle.meaning.specs.AreaCall.{appended, areaCall, walkCall, pushCall}
+use Rattle.meaning.specs.AreaCallLaws.{appended-load, call-cases, call-done}
+use Rattle.meaning.specs.Theorems.PlanLaws.{usual-flat, usual-fitting, usual-sparing}
 use Rattle.meaning.specs.Theorems.Sound.{Sound}
 use Rattle.meaning.specs.Theorems.SoundWalk.{sound-walked, sound-pushed}
+use Rattle.meaning.specs.Theorems.EachRecord.{EachRecord, each-record-at}
+use Rattle.meaning.specs.Theorems.Inside.{Within, inside-walked, inside-pushed, Inside, within-each}
 use Rattle.meaning.specs.Theorems.Bound.{needed-walked, needed-pushed}
 use Rattle.meaning.specs.Theorems.Unroll.{walked-again}
 use Rattle.meaning.specs.Theorems.ReadBack.{read-back}
@@ -63,3 +65,29 @@ pub push-read : (registry : ℕ) (area : List ℕ) (base : ℕ) (t : List ℕ) �
     → (i : ℕ) → used t ≤ i → i < used t + pushCall registry area base t .outcome .written
     → readCall (pushCall registry area base t .lent) i ≡ record { outcome = done; «record» = recordAt (pushCall registry area base t .lent) i }
 push-read = call-read (pushed usual) (sound-pushed usual usual-flat)
+
+-- ranges
+
+-- after a call that is done, each new record lies inside the area
+call-inside : (shows : Walk) → ((registry : ℕ) (area : List ℕ) (base : ℕ) → Within base (base + length area) (shows registry area base))
+    → (registry : ℕ) (area : List ℕ) (base : ℕ) (t : List ℕ) → areaCall shows registry area base t .outcome .answer ≡ 0
+    → (i : ℕ) → used t ≤ i → i < used t + areaCall shows registry area base t .outcome .written
+    → Inside base (base + length area) (recordAt (areaCall shows registry area base t .lent) i)
+call-inside shows within registry area base t zero i from below =
+    let trees = shows registry area base in
+    let x = call-done shows area base t registry zero in
+    let left = ap (λ (after : After). after .lent) (x .is) in
+    let written = ap (λ (after : After). after .outcome .written) (x .is) in
+    let each : EachRecord (Inside base (base + length area)) (load (appended trees t) (used t) (size trees)) =
+    rw (appended-load t trees (x .good) (x .fits)) (within-each base (base + length area) trees (within registry area base) (used t)) in
+    rw left (each-record-at (Inside base (base + length area)) (size trees) (appended trees t) (used t) each i from (omega (arith, written)))
+
+pub walk-inside : (registry : ℕ) (area : List ℕ) (base : ℕ) (t : List ℕ) → walkCall registry area base t .outcome .answer ≡ 0
+    → (i : ℕ) → used t ≤ i → i < used t + walkCall registry area base t .outcome .written
+    → Inside base (base + length area) (recordAt (walkCall registry area base t .lent) i)
+walk-inside = call-inside (walked usual) (inside-walked usual usual-fitting)
+
+pub push-inside : (registry : ℕ) (area : List ℕ) (base : ℕ) (t : List ℕ) → pushCall registry area base t .outcome .answer ≡ 0
+    → (i : ℕ) → used t ≤ i → i < used t + pushCall registry area base t .outcome .written
+    → Inside base (base + length area) (recordAt (pushCall registry area base t .lent) i)
+push-inside = call-inside (pushed usual) (inside-pushed usual usual-fitting)
