@@ -9,7 +9,7 @@ use lib.ListN.{length, getD, take, drop}
 abbrev pub lengthAt : ℕ → ℕ
 lengthAt at = at + 16
 
--- the length octet is there, and so are as many octets as it says
+-- the length octet is there, and so are as many octets as it says; without a length octet there are not so many octets, whatever it would say
 abbrev pub innerFits : List ℕ → ℕ → Bool
 innerFits v at = leb (lengthAt at + 1 + getD v (lengthAt at) 0) (length v)
 

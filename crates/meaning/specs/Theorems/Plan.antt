@@ -37,10 +37,9 @@ Every P (f ∷ fs) = P f × Every P fs
 abbrev pub Flat : Plan → Type 0
 Flat plan = (registry t : ℕ) (v : List ℕ) → isInner registry ≡ true → allPlain (plan registry t v) ≡ true
 
--- rows that give such a reading
-abbrev pub rowsFlat : List Row → Bool
-rowsFlat [] = true
-rowsFlat (row registry t least fields ∷ rows) = cond (isInner registry) (allPlain fields) true && rowsFlat rows
+-- the fields of a row of such a reading
+abbrev pub areFlat : ℕ → ℕ → List Field → Bool
+areFlat registry least fields = cond (isInner registry) (allPlain fields) true
 
 -- the octets that a field asks for, whatever they are
 abbrev pub need : Field → ℕ
@@ -55,17 +54,13 @@ need (push at) = at
 abbrev pub Fitting : Plan → Type 0
 Fitting plan = (registry t : ℕ) (v : List ℕ) → Every (λ (f : Field). need f ≤ length v) (plan registry t v)
 
--- fields inside n octets
-abbrev pub areInside : ℕ → List Field → Bool
-areInside n [] = true
-areInside n (f ∷ fs) = leb (need f) n && areInside n fs
+-- the fields of a row of such a reading
+abbrev pub areInside : ℕ → ℕ → List Field → Bool
+areInside registry least [] = true
+areInside registry least (f ∷ fs) = leb (need f) least && areInside registry least fs
 
--- rows that give such a reading
-abbrev pub rowsInside : List Row → Bool
-rowsInside [] = true
-rowsInside (row registry t least fields ∷ rows) = areInside least fields && rowsInside rows
-
--- fields, k others before them, of which only the last is not plain, lies inside n octets, and asks for enough of them. An entry has 2 octets and 3 records beside those of its value, so a value of m octets may show (5 + 7m) / 3 records, where the entry is to show 7 for 3 octets
+-- An entry has 2 octets and 3 records beside its value's, so where it shows at most 7 records for 3 octets, a value of m octets shows at most (5 + 7m) / 3.
+-- fields, k others before them: all but the last are plain, and the last lies inside n octets and asks for so many that one record a field is not too many
 abbrev pub areSparing : ℕ → ℕ → List Field → Bool
 areSparing n k [] = true
 areSparing n k (f ∷ []) = leb (need f) n && leb (3 * suc k) (5 + 7 * need f)
@@ -81,7 +76,11 @@ pub record Spare (fs : List Field) (n : ℕ) : Type 0 where
 abbrev pub Sparing : Plan → Type 0
 Sparing plan = (registry t : ℕ) (v : List ℕ) → Spare (plan registry t v) (length v)
 
--- rows that give such a reading
-abbrev pub rowsSparing : List Row → Bool
-rowsSparing [] = true
-rowsSparing (row registry t least fields ∷ rows) = areSparing least 0 fields && rowsSparing rows
+-- the fields of a row of such a reading
+abbrev pub haveFew : ℕ → ℕ → List Field → Bool
+haveFew registry least fields = areSparing least 0 fields
+
+-- rows that pass a test of registry, least length and fields
+abbrev pub rowsPass : (ℕ → ℕ → List Field → Bool) → List Row → Bool
+rowsPass test [] = true
+rowsPass test (row registry t least fields ∷ rows) = test registry least fields && rowsPass test rows
