@@ -1,6 +1,7 @@
 -- The labels of document 01, 'The tape': 0 to 46 are the field numbers of docs/src, 47 to 56 are those that 01 adds.
 use Prim.Native.Nat.{ℕ}
 
+-- the labels, by their names in docs/src
 pub data Label : Type 0 where
   type length value raw subTlvs adminGroup localIdentifier remoteIdentifier : Label
   ipv4InterfaceAddress ipv4NeighborAddress ipv6InterfaceAddress ipv6NeighborAddress maxBandwidth maxReservableBandwidth unreservedBandwidth teDefaultMetric : Label

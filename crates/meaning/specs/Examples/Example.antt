@@ -24,6 +24,7 @@ wordsOf [] = []
 wordsOf (line label shape registry start end n first past ∷ lines) =
     (label + 256 * shape + 65536 * registry) ∷ start ∷ end ∷ n ∷ first ∷ past ∷ wordsOf lines
 
+-- an example: what is called, and what it is to give
 pub data Case : Type 0 where
   -- a push that is done, onto an empty tape with just the room that is needed: base, registry, area, octets covered, records
   done : ℕ → ℕ → List ℕ → ℕ → List Line → Case

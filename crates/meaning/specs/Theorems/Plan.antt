@@ -24,6 +24,7 @@ isPlain (array label span element) = false
 isPlain (tail at) = false
 isPlain (push at) = false
 
+-- fields that are all so
 abbrev pub allPlain : List Field → Bool
 allPlain [] = true
 allPlain (f ∷ fs) = isPlain f && allPlain fs
