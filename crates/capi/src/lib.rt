@@ -1,18 +1,18 @@
 // The C boundary: each call over slices and numbers. A slice passes as a pointer and a length; where a call gives an
 // outcome, its four numbers go to a place that the caller lends. What is lent is there, and no two of its parts overlap;
 // a length of 0 takes any pointer.
+use calls::clear;
+use calls::cut_back;
+use calls::nest::nest_test;
+use calls::read;
 use octets::mask::mask_prefix;
 use tape::Position;
-use tape::calls::clear;
-use tape::calls::cut_back;
-use tape::calls::read;
-use tape::nest::nest_test;
 ghost use mathlib.Core.Path.{_≡_};
 ghost use Rattle.octets.specs.Mask.{Masks};
 ghost use Rattle.outcome.specs.Call.{GivesNumbers};
 ghost use Rattle.registry.specs.NameCall.{nameCall};
-ghost use Rattle.tape.specs.Calls.{clearCall, cutBackCall, readCall, GivesRecord};
-ghost use Rattle.tape.specs.Nest.{nestTest, yesNo};
+ghost use Rattle.calls.specs.Calls.{clearCall, cutBackCall, readCall, GivesRecord};
+ghost use Rattle.calls.specs.Nest.{nestTest, yesNo};
 
 // Clears the bits of `prefix` after the first `bits` bits.
 #[no_mangle]

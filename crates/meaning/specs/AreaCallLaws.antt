@@ -17,14 +17,14 @@ use Rattle.registry.specs.declared.Registry.{Registry}
 use Rattle.registry.specs.declared.Registry.the-variants.{Neighbor, Prefix, RouterCapability, Binding, Srv6Sid, Unregistered}
 use Rattle.registry.specs.declared.Found.{Found}
 use Rattle.registry.specs.declared.Found.the-variants.{Known, Unknown}
-use Rattle.tape.specs.Limits.{lastRegistry}
+use Rattle.calls.specs.Limits.{lastRegistry}
 use Rattle.tape.specs.Tape.{used, room, headed, load, store}
 use Rattle.tape.specs.TapeLaws.{length-store}
 use Rattle.tape.specs.HeaderLaws.{headed-in-order}
 use Rattle.tape.specs.Forest.{Forest, size, flat}
 use Rattle.tape.specs.Laid.{Laid}
 use Rattle.tape.specs.LaidLaws.{laid-length, laid-load, laid-other}
-use Rattle.tape.specs.WellNestedLaws.{load-with-used, used-with-used}
+use Rattle.calls.specs.WellNestedLaws.{load-with-used, used-with-used}
 use Rattle.meaning.specs.Frame.{covered}
 use Rattle.meaning.specs.Value.{Walk}
 use Rattle.meaning.specs.AreaCall.{longest, furthest, appended, shown, fitted, callIn, areaCall}

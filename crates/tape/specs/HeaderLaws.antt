@@ -1,7 +1,7 @@
 -- Laws of the header: what it means that it is in order, and what leaves it so.
-use mathlib.Core.Path.{_≡_, refl, _∙_}
+use mathlib.Core.Path.{_≡_, _∙_}
 use mathlib.Core.Bool.{true}
-use mathlib.Core.List.{List, [], _∷_}
+use mathlib.Core.List.{List}
 use Prim.Native.Nat.{ℕ, _+_, _*_, _≤_}
 use native.Mathlib.Omega.{arith}
 use borrow.Author.Tests.{leb-true, eqb-true, le-leb, eq-eqb}
@@ -9,7 +9,7 @@ use lib.Dec.{leb, eqb}
 use lib.ListN.{length, getD, length-set}
 use lib.Seq.{getD-set-same, getD-set-other}
 use Rattle.tape.specs.Both.{both}
-use Rattle.tape.specs.Tape.{InOrder, used, headed, withUsed, cleared}
+use Rattle.tape.specs.Tape.{InOrder, used, headed, withUsed}
 
 -- headed says yes only where the header is in order
 pub headed-in-order : (t : List ℕ) → headed t ≡ true → InOrder t
@@ -47,19 +47,3 @@ with-used-in-order t n x inside =
       last = getD-set-other t 0 3 n 0 (omega arith) ∙ x .last;
       fits = rw (getD-set-same t 0 n 0 (omega (arith, x .long)), length-set) (omega arith);
     }
-
--- a cleared tape
-pub cleared-in-order : (t : List ℕ) → 4 ≤ length t → InOrder (cleared t)
-cleared-in-order [] long = absurd (omega arith)
-cleared-in-order (a ∷ []) long = absurd (omega arith)
-cleared-in-order (a ∷ b ∷ []) long = absurd (omega arith)
-cleared-in-order (a ∷ b ∷ c ∷ []) long = absurd (omega arith)
-cleared-in-order (a ∷ b ∷ c ∷ d ∷ rest) long = record { long = omega arith; offset = refl; width = refl; last = refl; fits = omega arith }
-
--- and it has no records
-pub used-cleared : (t : List ℕ) → used (cleared t) ≡ 0
-used-cleared [] = refl
-used-cleared (a ∷ []) = refl
-used-cleared (a ∷ b ∷ []) = refl
-used-cleared (a ∷ b ∷ c ∷ []) = refl
-used-cleared (a ∷ b ∷ c ∷ d ∷ rest) = refl

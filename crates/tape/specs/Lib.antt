@@ -1,5 +1,4 @@
 pub mod Both
-pub mod Limits
 pub mod Record
 pub mod RecordLaws
 pub mod Tape
@@ -11,11 +10,3 @@ pub mod ForestLaws
 pub mod Laid
 pub mod LaidLaws
 pub mod Laying
-pub mod Calls
-pub mod CallsLaws
-pub mod Nest
-pub mod NestLaws
-pub mod WellNested
-pub mod SplitLaws
-pub mod WellNestedLaws
-pub mod NestKept

@@ -35,10 +35,6 @@ pub record InOrder (t : List ℕ) : Type 0 where
 abbrev pub withUsed : ℕ → List ℕ → List ℕ
 withUsed n t = set t 0 n
 
--- the header 0, 4, 6, 0, and nothing else changed
-abbrev pub cleared : List ℕ → List ℕ
-cleared t = sets t 0 (0 ∷ 4 ∷ 6 ∷ 0 ∷ [])
-
 -- records
 
 -- the record at a position

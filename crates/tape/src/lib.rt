@@ -1,13 +1,10 @@
-// The tape (document 01, 'The tape'): a lent slice of words, four of header and then records of six; and its calls.
+// The tape (document 01, 'The tape'): a lent slice of words, four of header and then records of six.
 ghost use mathlib.Core.Path.{_≡_};
 ghost use Rattle.tape.specs.Record.{labelOf, shapeOf, registryOf, leafRecord, containerRecord, zeros, words};
 
-pub mod calls;
 pub mod header;
 pub mod label;
 pub mod lay;
-pub mod limits;
-pub mod nest;
 pub mod shape;
 pub mod words;
 

@@ -1,6 +1,6 @@
 -- Yes is 1, no is 0.
 use mathlib.Core.Path.{ap, sym, _∙_}
-use Rattle.tape.specs.Nest.{yesNo}
+use Rattle.calls.specs.Nest.{yesNo}
 use borrow.Author.Needs.{needs}
 use Rattle.capi.proofs.wakkemosut_nest_test.Statement.{statement}
 use Rattle.capi.proofs.wakkemosut_nest_test.Tie as tie

@@ -1,5 +1,5 @@
 -- The call's outcome and record, as numbers.
-use Rattle.tape.specs.CallsLaws.{gives-record}
+use Rattle.calls.specs.CallsLaws.{gives-record}
 use borrow.Author.Needs.{needs}
 use Rattle.capi.proofs.wakkemosut_read.Statement.{statement}
 use Rattle.capi.proofs.wakkemosut_read.Tie as tie

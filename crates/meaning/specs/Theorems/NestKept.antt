@@ -5,11 +5,11 @@ use mathlib.Core.List.{List}
 use Prim.Native.Nat.{ℕ, _+_, _-_, _≤_}
 use Rattle.outcome.specs.Call.{After}
 use Rattle.registry.specs.Registry.{numberOf}
-use Rattle.tape.specs.Limits.{lastRegistry, deepest}
+use Rattle.calls.specs.Limits.{lastRegistry, deepest}
 use Rattle.tape.specs.Tape.{used, room, headed, withUsed, store}
 use Rattle.tape.specs.Forest.{Forest, size, flat}
-use Rattle.tape.specs.Nest.{nestTest}
-use Rattle.tape.specs.WellNestedLaws.{yes-nested, nested-yes, nested-laid}
+use Rattle.calls.specs.Nest.{nestTest}
+use Rattle.calls.specs.WellNestedLaws.{yes-nested, nested-yes, nested-laid}
 use Rattle.meaning.specs.Table.{usual}
 use Rattle.meaning.specs.Value.{Walk}
 use Rattle.meaning.specs.Area.{walked, pushed}

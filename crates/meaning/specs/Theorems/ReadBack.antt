@@ -10,8 +10,8 @@ use Rattle.outcome.specs.Call.{done}
 use Rattle.tape.specs.Tape.{used, room, headed, recordAt, load}
 use Rattle.tape.specs.HeaderLaws.{headed-in-order, in-order-headed}
 use Rattle.tape.specs.Forest.{Forest, none, leaf, node, size, flat}
-use Rattle.tape.specs.Calls.{readable, readCall}
-use Rattle.tape.specs.CallsLaws.{read-0}
+use Rattle.calls.specs.Calls.{readable, readCall}
+use Rattle.calls.specs.CallsLaws.{read-0}
 use Rattle.tape.specs.declared.Record.{Record}
 use Rattle.meaning.specs.AreaCall.{appended}
 use Rattle.meaning.specs.AreaCallLaws.{appended-used, appended-load, appended-other, length-appended}

@@ -2,7 +2,7 @@
 use mathlib.Core.Path.{_≡_}
 use mathlib.Core.Bool.{Bool, true, false}
 use Prim.Native.Nat.{ℕ, zero, suc, _≤_}
-use Rattle.tape.specs.Limits.{lastLabel, lastShape, lastRegistry}
+use Rattle.calls.specs.Limits.{lastLabel, lastShape, lastRegistry}
 use Rattle.tape.specs.Record.{holds}
 use Rattle.tape.specs.Forest.{Forest, none, leaf, node}
 use Rattle.tape.specs.declared.Content.{Content}

@@ -8,10 +8,10 @@ use borrow.Author.Tests.{le-leb, lt-ltb}
 use lib.Dec.{leb}
 use lib.ListN.{length}
 use Rattle.tape.specs.Both.{and-true}
-use Rattle.tape.specs.Limits.{lastLabel, lastShape, lastRegistry}
+use Rattle.calls.specs.Limits.{lastLabel, lastShape, lastRegistry}
 use Rattle.tape.specs.Record.{holds, tagOf, labelOf, shapeOf, containerRecord}
 use Rattle.tape.specs.RecordLaws.{label-made, shape-made}
-use Rattle.tape.specs.Calls.{readable}
+use Rattle.calls.specs.Calls.{readable}
 use Rattle.tape.specs.Forest.{Forest, none, leaf, node, _⧺_, depth, Fits, Formed}
 use Rattle.tape.specs.declared.Content.{Content}
 use Rattle.meaning.specs.Label.{Label, number}

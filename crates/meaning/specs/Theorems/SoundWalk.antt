@@ -10,7 +10,7 @@ use lib.ListN.{length, getD, drop}
 use Rattle.octets.specs.BigEndian.{bigEndian}
 use Rattle.registry.specs.Registry.{numberOf}
 use Rattle.registry.specs.declared.Registry.the-variants.{Srv6Sid, Unregistered}
-use Rattle.tape.specs.Limits.{lastRegistry}
+use Rattle.calls.specs.Limits.{lastRegistry}
 use Rattle.tape.specs.Forest.{Forest, none}
 use Rattle.meaning.specs.Label
 use Rattle.meaning.specs.Label.{Label}

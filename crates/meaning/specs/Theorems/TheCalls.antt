@@ -7,9 +7,9 @@ use lib.ListN.{length}
 use Rattle.outcome.specs.Call.{After, done}
 use Rattle.tape.specs.Tape.{used, recordAt, load}
 use Rattle.tape.specs.Forest.{size}
-use Rattle.tape.specs.Calls.{readCall}
+use Rattle.calls.specs.Calls.{readCall}
 use Rattle.registry.specs.Registry.{numberOf}
-use Rattle.tape.specs.Limits.{lastRegistry}
+use Rattle.calls.specs.Limits.{lastRegistry}
 use Rattle.meaning.specs.Table.{usual}
 use Rattle.meaning.specs.Value.{Walk}
 use Rattle.meaning.specs.Area.{walkTrees, walked, pushed}

@@ -1,0 +1,161 @@
+-- The calls clear, cut back and read, case by case: what each gives where which test holds.
+use mathlib.Core.Path.{_≡_, refl, sym, ap, _∙_}
+use mathlib.Core.Bool.{Bool, true, false, _&&_}
+use mathlib.Core.List.{List, [], _∷_, _++_}
+use Prim.Native.Nat.{ℕ, zero, suc, _≤_, _<_, _+_, _*_, _-_}
+use native.Mathlib.Nat.{zero-add}
+use native.Mathlib.Decide.{decLe}
+use native.Mathlib.Omega.{arith}
+use borrow.Author.Tests.{le-leb, lt-leb, lt-ltb, le-ltb, leb-true}
+use lib.Dec.{leb}
+use lib.ListN.{length}
+use Rattle.outcome.specs.Call.{done, refusal, finished, numbersOf}
+use Rattle.calls.specs.Limits.{lastRegistry}
+use Rattle.tape.specs.Both.{both, and-true, and-assoc, and-yes, and-no}
+use Rattle.tape.specs.Record.{words}
+use Rattle.tape.specs.Tape.{InOrder, used, headed, withUsed, recordAt, load}
+use Rattle.tape.specs.LoadLaws.{load-append}
+use Rattle.calls.specs.Calls.{cleared, clearCall, endBy, cutBackCall, readable, noRecord, readCall, GivesRecord}
+use Rattle.tape.specs.declared.Record.{Record}
+use Rattle.calls.specs.declared.Reading.{Reading}
+
+-- clear
+
+module _ (t : List ℕ) where
+  -- 4: under 4 words
+  pub clear-4 : length t < 4 → clearCall t ≡ refusal 4 t
+  unfolding clearCall
+  clear-4 short = rw (lt-leb 4 (length t) short)
+
+  -- 0: done
+  pub clear-0 : 4 ≤ length t → clearCall t ≡ finished (cleared t)
+  unfolding clearCall
+  clear-0 long = rw (le-leb 4 (length t) long)
+
+-- cleared
+
+-- a cleared tape
+pub cleared-in-order : (t : List ℕ) → 4 ≤ length t → InOrder (cleared t)
+cleared-in-order [] long = absurd (omega arith)
+cleared-in-order (a ∷ []) long = absurd (omega arith)
+cleared-in-order (a ∷ b ∷ []) long = absurd (omega arith)
+cleared-in-order (a ∷ b ∷ c ∷ []) long = absurd (omega arith)
+cleared-in-order (a ∷ b ∷ c ∷ d ∷ rest) long = record { long = omega arith; offset = refl; width = refl; last = refl; fits = omega arith }
+
+-- and it has no records
+pub used-cleared : (t : List ℕ) → used (cleared t) ≡ 0
+used-cleared [] = refl
+used-cleared (a ∷ []) = refl
+used-cleared (a ∷ b ∷ []) = refl
+used-cleared (a ∷ b ∷ c ∷ []) = refl
+used-cleared (a ∷ b ∷ c ∷ d ∷ rest) = refl
+
+-- cut back
+
+-- records one after the other
+end-by-++ : (mark : ℕ) (xs ys : List Record) → endBy mark (xs ++ ys) ≡ (endBy mark xs && endBy mark ys)
+unfolding endBy
+end-by-++ mark [] ys = refl
+end-by-++ mark (x ∷ xs) ys = ap (λ (b : Bool). leb (x .past .0) mark && b) (end-by-++ mark xs ys) ∙ sym (and-assoc (leb (x .past .0) mark) (endBy mark xs) (endBy mark ys))
+
+-- the turns of its loop, from the last record kept to the first
+module _ (t : List ℕ) (mark left : ℕ) (more : 0 < left) where
+  -- the last record that is left, and those before it
+  end-last : endBy mark (load t 0 left) ≡ (endBy mark (load t 0 (left - 1)) && (leb (recordAt t (left - 1) .past .0) mark && true))
+  unfolding endBy load
+  end-last =
+      let k : ℕ = left - 1 in
+      let count : left ≡ k + 1 = omega arith in
+      ap (λ (n : ℕ). endBy mark (load t 0 n)) count ∙ ap (endBy mark) (load-append k 1 t 0) ∙ end-by-++ mark (load t 0 k) (load t (0 + k) 1) ∙ rw zero-add refl
+
+  -- its descendants end by the mark
+  pub end-next : recordAt t (left - 1) .past .0 ≤ mark → endBy mark (load t 0 (left - 1)) ≡ endBy mark (load t 0 left)
+  end-next ends = sym (end-last ∙ rw (le-leb _ _ ends) (and-yes (endBy mark (load t 0 (left - 1)))))
+
+  -- its descendants end after the mark
+  pub end-over : mark < recordAt t (left - 1) .past .0 → false ≡ endBy mark (load t 0 left)
+  end-over over = sym (end-last ∙ rw (lt-leb _ _ over) (and-no (endBy mark (load t 0 (left - 1)))))
+
+-- no record is left
+pub end-none : (t : List ℕ) (mark left : ℕ) → left ≤ 0 → true ≡ endBy mark (load t 0 left)
+unfolding endBy load
+end-none t mark left none =
+    let count : left ≡ 0 = omega arith in
+    rw count refl
+
+-- it is judged on every record kept: where it holds, each record keeps it
+pub end-by-each : (n : ℕ) (t : List ℕ) (mark at : ℕ) → endBy mark (load t at n) ≡ true → (i : ℕ) → at ≤ i → i < at + n → recordAt t i .past .0 ≤ mark
+unfolding endBy load
+end-by-each zero t mark at kept i from below = absurd (omega arith)
+end-by-each (suc n) t mark at kept i from below =
+    let x = both (leb (recordAt t at .past .0) mark) (endBy mark (load t (suc at) n)) kept in
+    go (decLe i at) (leb-true _ _ (x .0)) (λ later. end-by-each n t mark (suc at) (x .1) i later (omega arith))
+  where
+    go : Dec (i ≤ at) → recordAt t at .past .0 ≤ mark → (suc at ≤ i → recordAt t i .past .0 ≤ mark) → recordAt t i .past .0 ≤ mark
+    go (yes first) here behind =
+        let same : i ≡ at = omega arith in
+        rw same here
+    go (no later) here behind = behind (omega arith)
+
+-- and it holds where each record keeps it
+pub each-end-by : (n : ℕ) (t : List ℕ) (mark at : ℕ) → ((i : ℕ) → at ≤ i → i < at + n → recordAt t i .past .0 ≤ mark) → endBy mark (load t at n) ≡ true
+unfolding endBy load
+each-end-by zero t mark at ends = refl
+each-end-by (suc n) t mark at ends =
+    and-true (le-leb (recordAt t at .past .0) mark (ends at (omega arith) (omega arith))) (each-end-by n t mark (suc at) (λ i from below. ends i (omega arith) (omega arith)))
+
+module _ (t : List ℕ) (mark : ℕ) where
+  -- 4: the header is not in order
+  pub cut-4 : headed t ≡ false → cutBackCall t mark ≡ refusal 4 t
+  unfolding cutBackCall
+  cut-4 bad = rw bad
+
+  -- 6: mark past the count
+  pub cut-6 : headed t ≡ true → used t < mark → cutBackCall t mark ≡ refusal 6 t
+  unfolding cutBackCall
+  cut-6 good past = rw (good, lt-leb mark (used t) past)
+
+  -- 7: a record kept by the cut has word 5 above the mark
+  pub cut-7 : headed t ≡ true → mark ≤ used t → endBy mark (load t 0 mark) ≡ false → cutBackCall t mark ≡ refusal 7 t
+  unfolding cutBackCall
+  cut-7 good inside cuts = rw (good, le-leb mark (used t) inside, cuts)
+
+  -- 0: done
+  pub cut-0 : headed t ≡ true → mark ≤ used t → endBy mark (load t 0 mark) ≡ true → cutBackCall t mark ≡ finished (withUsed mark t)
+  unfolding cutBackCall
+  cut-0 good inside kept = rw (good, le-leb mark (used t) inside, kept)
+
+-- read
+
+module _ (t : List ℕ) (at : ℕ) where
+  -- 4: the header is not in order
+  pub read-4 : headed t ≡ false → readCall t at ≡ noRecord 4
+  unfolding readCall
+  read-4 bad = rw bad
+
+  -- 6: at or past the count
+  pub read-6 : headed t ≡ true → used t ≤ at → readCall t at ≡ noRecord 6
+  unfolding readCall
+  read-6 good past = rw (good, le-ltb at (used t) past)
+
+  -- 8: label, shape or registry over the last, or start after end
+  pub read-8 : headed t ≡ true → at < used t → readable (recordAt t at) ≡ false → readCall t at ≡ noRecord 8
+  unfolding readCall
+  read-8 good inside bad = rw (good, lt-ltb at (used t) inside, bad)
+
+  -- 0: done
+  pub read-0 : headed t ≡ true → at < used t → readable (recordAt t at) ≡ true → readCall t at ≡ record { outcome = done; «record» = recordAt t at }
+  unfolding readCall
+  read-0 good inside fine = rw (good, lt-ltb at (used t) inside, fine)
+
+-- word 0 of a record that is read is below 393,216
+pub word-0-limit : 65536 * suc lastRegistry ≡ 393216
+word-0-limit = refl
+
+-- two results over the C boundary that meet read's contract are equal
+pub record-unique : {meant : Reading} {one other words′ words″ : List ℕ} → GivesRecord meant one words′ → GivesRecord meant other words″ → (one ≡ other) × (words′ ≡ words″)
+record-unique a b = (a .gave ∙ sym (b .gave), a .shown ∙ sym (b .shown))
+
+-- from read's contract to the one over the C boundary
+pub gives-record : {meant reading : Reading} {numbers words′ : List ℕ} → numbers ≡ numbersOf (reading .outcome) → words′ ≡ words (reading .«record») → reading ≡ meant → GivesRecord meant numbers words′
+gives-record wrote wrote′ is = record { gave = wrote ∙ ap (λ (r : Reading). numbersOf (r .outcome)) is; shown = wrote′ ∙ ap (λ (r : Reading). words (r .«record»)) is }

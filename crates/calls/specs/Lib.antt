@@ -1,0 +1,9 @@
+pub mod Limits
+pub mod Calls
+pub mod CallsLaws
+pub mod Nest
+pub mod NestLaws
+pub mod WellNested
+pub mod SplitLaws
+pub mod WellNestedLaws
+pub mod NestKept
