@@ -232,4 +232,10 @@ others =
     -- the second case, pushed behind two records of any words, on a tape with room for four and a word to spare
     onto (2 ∷ 4 ∷ 6 ∷ 0 ∷ replicate 12 9 ++ replicate 13 7) 0 (0x12 ∷ []) 0 0 2 2
     (4 ∷ 4 ∷ 6 ∷ 0 ∷ replicate 12 9 ++ (1796 ∷ 100 ∷ 100 ∷ 0 ∷ 3 ∷ 3 ∷ 1539 ∷ 100 ∷ 101 ∷ 0 ∷ 0 ∷ 0 ∷ 7 ∷ [])) ∷
+    -- registry 6: answer 1
+    refused 5 100 6 (0x12 ∷ []) 1 0 ∷
+    -- a header that is not in order: answer 4
+    onto (0 ∷ 4 ∷ 5 ∷ 0 ∷ replicate 12 0) 0 (0x12 ∷ []) 4 0 0 0 (0 ∷ 4 ∷ 5 ∷ 0 ∷ replicate 12 0) ∷
+    -- two records needed, and room for one behind two: answer 5
+    onto (2 ∷ 4 ∷ 6 ∷ 0 ∷ replicate 18 9) 0 (0x12 ∷ []) 5 0 0 2 (2 ∷ 4 ∷ 6 ∷ 0 ∷ replicate 18 9) ∷
     []
