@@ -105,17 +105,26 @@ module _ (shows : Walk) (registry : Registry) (area : List ℕ) (base : ℕ) (t 
         unfolding callIn
         accepted = known ∙ rw (le-leb (length area) longest short, le-leb (base + length area) furthest near, good)
 
-        -- 0: done
-        pub call-0 : size (shows (numberOf registry) area base) ≤ room t - used t
-            → areaCall shows (numberOf registry) area base t ≡ shown (covered area) (shows (numberOf registry) area base) t
+        -- the free room decides
+        judged : (room t - used t < size (shows (numberOf registry) area base)
+            → areaCall shows (numberOf registry) area base t ≡ record { outcome = noRoom (size (shows (numberOf registry) area base)); lent = t })
+            × (size (shows (numberOf registry) area base) ≤ room t - used t
+            → areaCall shows (numberOf registry) area base t ≡ shown (covered area) (shows (numberOf registry) area base) t)
         unfolding fitted
-        call-0 fits = accepted ∙ rw (le-leb (size (shows (numberOf registry) area base)) (room t - used t) fits)
+        judged = (
+          λ less. accepted ∙ rw (lt-leb (size (shows (numberOf registry) area base)) (room t - used t) less),
+          λ fits. accepted ∙ rw (le-leb (size (shows (numberOf registry) area base)) (room t - used t) fits),
+        )
 
         -- 5: needed records exceed free room
         pub call-5 : room t - used t < size (shows (numberOf registry) area base)
             → areaCall shows (numberOf registry) area base t ≡ record { outcome = noRoom (size (shows (numberOf registry) area base)); lent = t }
-        unfolding fitted
-        call-5 less = accepted ∙ rw (lt-leb (size (shows (numberOf registry) area base)) (room t - used t) less)
+        call-5 = judged .0
+
+        -- 0: done
+        pub call-0 : size (shows (numberOf registry) area base) ≤ room t - used t
+            → areaCall shows (numberOf registry) area base t ≡ shown (covered area) (shows (numberOf registry) area base) t
+        call-0 = judged .1
 
 -- what holds of every refusal, of the refusal under 5, and of what is shown where no refusal holds, holds of the call
 module _ (P : After → Type 0) (shows : Walk) (area : List ℕ) (base : ℕ) (t : List ℕ)

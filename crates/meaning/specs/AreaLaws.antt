@@ -19,12 +19,7 @@ use Rattle.meaning.specs.Area.{walked, pushed}
 
 -- a push by any walk
 module _ (walk : Walk) (registry : ℕ) (area : List ℕ) (base : ℕ) where
-  -- where no octets are left, a push is the walk
-  pub push-whole : remainder area ≡ [] → pushBy walk registry area base ≡ walk registry area base
-  unfolding pushBy raw
-  push-whole none-left = rw none-left (⧺-none (walk registry area base))
-
-  -- where octets are left, it is the walk and one `raw` record beside, over those octets
+  -- where octets are left, a push is the walk and one `raw` record beside, over those octets
   pub push-left : 0 < length (remainder area)
       → pushBy walk registry area base ≡ walk registry area base ⧺ one Label.raw bytes registry (base + covered area) (base + length area) 0
   unfolding pushBy raw
@@ -35,6 +30,11 @@ module _ (walk : Walk) (registry : ℕ) (area : List ℕ) (base : ℕ) where
       go (x ∷ xs) is some =
           let ends : base + covered area + length (x ∷ xs) ≡ base + length area = omega (arith, ap length is, length-remainder area) in
           ap (λ (end : ℕ). one Label.raw bytes registry (base + covered area) end 0) ends
+
+  -- where none are left, it is the walk
+  pub push-whole : remainder area ≡ [] → pushBy walk registry area base ≡ walk registry area base
+  unfolding pushBy raw
+  push-whole none-left = rw none-left (⧺-none (walk registry area base))
 
 -- the push is the walk's
 pub pushed-by : (plan : Plan) (registry : ℕ) (area : List ℕ) (base : ℕ) → pushed plan registry area base ≡ pushBy (walked plan) registry area base

@@ -9,15 +9,15 @@ abbrev pub Measure : Type 0
 Measure = List ℕ → ℕ
 
 -- a piece of so many octets in front of xs, and the pieces after it
-abbrev pub inFront : ℕ → List ℕ → List (List ℕ) → List (List ℕ)
-inFront zero xs after = []
-inFront (suc n) xs after = take (suc n) xs ∷ after
+abbrev pub firstPiece : ℕ → List ℕ → List (List ℕ) → List (List ℕ)
+firstPiece zero xs after = []
+firstPiece (suc n) xs after = take (suc n) xs ∷ after
 
 -- the pieces of xs after its first `skip` octets, which belong to a piece already taken
 unfoldable pub piecesAfter : ℕ → Measure → List ℕ → List (List ℕ)
 piecesAfter skip m [] = []
 piecesAfter (suc skip) m (x ∷ xs) = piecesAfter skip m xs
-piecesAfter zero m (x ∷ xs) = inFront (m (x ∷ xs)) (x ∷ xs) (piecesAfter (pred (m (x ∷ xs))) m xs)
+piecesAfter zero m (x ∷ xs) = firstPiece (m (x ∷ xs)) (x ∷ xs) (piecesAfter (pred (m (x ∷ xs))) m xs)
 
 -- the complete pieces of xs, from its front on, up to the first place where none stands
 unfoldable pub pieces : Measure → List ℕ → List (List ℕ)

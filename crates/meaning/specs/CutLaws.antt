@@ -6,15 +6,11 @@ use native.Mathlib.Nat.{add-zero, add-assoc}
 use native.Mathlib.Omega.{arith}
 use lib.ListN.{length, take, drop, length-take, length-drop, take-append-drop}
 use lib.Seq.{length-take-le, drop-drop, take-append-le, take-append-seam, drop-append-le, drop-append-seam}
-use Rattle.tape.specs.Forest.{Forest, none, _⧺_}
+use Rattle.tape.specs.Forest.{Forest, _⧺_}
 use Rattle.tape.specs.ForestLaws.{⧺-assoc}
-use Rattle.meaning.specs.Cut.{Measure, inFront, piecesAfter, pieces, total, each}
+use Rattle.meaning.specs.Cut.{Measure, firstPiece, piecesAfter, pieces, total, each}
 
 -- each
-
-pub each-none : (f : List ℕ → ℕ → Forest) (at : ℕ) → each f at [] ≡ none
-unfolding each
-each-none f at = refl
 
 pub each-++ : (f : List ℕ → ℕ → Forest) (at : ℕ) (ps qs : List (List ℕ)) → each f at (ps ++ qs) ≡ each f at ps ⧺ each f (at + total ps) qs
 unfolding each total _⧺_
@@ -58,7 +54,7 @@ module _ (m : Measure) (fits : (xs : List ℕ) → m xs ≤ length xs) where
   pieces-step [] h = absurd (omega (arith, fits []))
   pieces-step (x ∷ xs) h = go (m (x ∷ xs)) h
     where
-      go : (n : ℕ) → 0 < n → inFront n (x ∷ xs) (piecesAfter (pred n) m xs) ≡ take n (x ∷ xs) ∷ piecesAfter 0 m (drop n (x ∷ xs))
+      go : (n : ℕ) → 0 < n → firstPiece n (x ∷ xs) (piecesAfter (pred n) m xs) ≡ take n (x ∷ xs) ∷ piecesAfter 0 m (drop n (x ∷ xs))
       go zero h = absurd (omega arith)
       go (suc n) h = rw (skipped m n xs)
 

@@ -8,8 +8,9 @@ pub mod FormLaws
 -- what is asked of a reading
 pub mod Plan
 pub mod PlanLaws
--- what holds of each record of a list
+-- what holds of each record of a list, and of forests one after the other
 pub mod EachRecord
+pub mod Closed
 -- every record is one that can be read, and the records nest
 pub mod Sound
 pub mod SoundLaws

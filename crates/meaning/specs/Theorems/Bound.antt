@@ -28,6 +28,7 @@ use Rattle.meaning.specs.Array.{octetsIn, startOf, elementLength, elemen
 use Rattle.meaning.specs.Tail.{lengthAt, innerFits, inner}
 use Rattle.meaning.specs.Value.{fieldEnd, taken, Walk, pushBy, fieldTrees, fieldsTrees, valueTrees}
 use Rattle.meaning.specs.Area.{entryTrees, walkTrees, noWalk, innerWalk, walked, pushed}
+use Rattle.meaning.specs.Theorems.Closed.{either}
 use Rattle.meaning.specs.Theorems.Plan.{isPlain, need, areSparing, Spare, Sparing}
 
 -- pieces
@@ -46,19 +47,20 @@ unfolding raw
 size-raw-le registry at [] = omega arith
 size-raw-le registry at (x ∷ xs) = omega arith
 
-cond-size : (b : Bool) (f g : Forest) (n : ℕ) → size f ≤ n → size g ≤ n → size (cond b f g) ≤ n
-cond-size true f g n x y = x
-cond-size false f g n x y = y
-
 size-sid-le : (label : Label) (registry : ℕ) (v : List ℕ) (base at : ℕ) → size (sidTrees label registry v base at) ≤ 1
 unfolding sidTrees
 size-sid-le label registry v base at =
-    cond-size (leb (at + 4) (length v)) _ _ 1 (omega arith) (cond-size (leb (at + 3) (length v)) _ none 1 (omega arith) (omega arith))
+    either (λ (f : Forest). size f ≤ 1) (leb (at + 4) (length v)) _ _ (omega arith) (either (λ (f : Forest). size f ≤ 1) (leb (at + 3) (length v)) _ none (omega arith) (omega arith))
 
 -- a push, where the walk shows at most 7 records for 3 octets covered, beside its array
 push-bound : (walk : Walk) (registry : ℕ) (area : List ℕ) (base : ℕ) → 3 * size (walk registry area base) ≤ 3 + 7 * covered area → 3 * size (pushBy walk registry area base) ≤ 3 + 7 * length area
 unfolding pushBy
 push-bound walk registry area base small = rw size-⧺ (omega (arith, size-raw-le registry (base + covered area) (remainder area), length-remainder area))
+
+-- a tail
+tail-bound : (b : Bool) (f : Forest) (at c : ℕ) → 3 * size f ≤ 3 + 7 * c → 3 * (1 + size (cond b f none)) + 7 * (at + 16) ≤ 3 + 7 * cond b (at + 16 + 1 + c) (at + 16)
+tail-bound true f at c h = omega arith
+tail-bound false f at c h = omega arith
 
 -- elements
 
@@ -112,6 +114,16 @@ tail-inside v at inside = go (innerFits v at) refl
         omega (arith, leb-true (lengthAt at + 1 + getD v (lengthAt at) 0) (length v) e, covered-le (inner v at), length-take (getD v (lengthAt at) 0) (drop (lengthAt at + 1) v))
     go false e = inside
 
+-- a field that finds its octets ends inside the value
+field-inside : (v : List ℕ) (f : Field) → need f ≤ length v → fieldEnd v f ≤ length v
+unfolding fieldEnd
+field-inside v (part label shape at width) inside = inside
+field-inside v (flag label mask) inside = inside
+field-inside v (sid at) inside = sid-ends v at inside .1
+field-inside v (array label span element) inside = omega (arith, span-inside span v inside, total-le (elementLength element) (element-fits element) (octetsIn span v))
+field-inside v (tail at) inside = tail-inside v at inside
+field-inside v (push at) inside = omega arith
+
 -- an entry has at least its type and its length
 pub entry-least : (xs : List ℕ) → 0 < entryLength xs → 2 ≤ entryLength xs
 unfolding entryLength
@@ -121,10 +133,6 @@ entry-least xs some = omega (arith, whole-is (suc (suc (getD xs 1 0))) xs some)
 
 -- where an area inside a value shows at most 7 records for 3 octets covered, beside its array
 module _ (walk : Walk) (small : (registry : ℕ) (area : List ℕ) (at : ℕ) → 3 * size (walk registry area at) ≤ 3 + 7 * covered area) where
-  tail-bound : (b : Bool) (f : Forest) (at c : ℕ) → 3 * size f ≤ 3 + 7 * c → 3 * (1 + size (cond b f none)) + 7 * (at + 16) ≤ 3 + 7 * cond b (at + 16 + 1 + c) (at + 16)
-  tail-bound true f at c h = omega arith
-  tail-bound false f at c h = omega arith
-
   field-bound : (registry : ℕ) (v : List ℕ) (base : ℕ) (f : Field) → need f ≤ length v → 3 * size (fieldTrees walk registry v base f) + 7 * need f ≤ 3 + 7 * fieldEnd v f
   unfolding fieldTrees fieldEnd
   field-bound registry v base (part label shape at width) inside = omega arith
@@ -134,15 +142,6 @@ module _ (walk : Walk) (small : (registry : ℕ) (area : List ℕ) (at : ℕ) �
   field-bound registry v base (tail at) inside =
       rw size-⧺ (tail-bound (innerFits v at) (walk (numberOf Srv6Sid) (inner v at) (base + (lengthAt at + 1))) at (covered (inner v at)) (small (numberOf Srv6Sid) (inner v at) (base + (lengthAt at + 1))))
   field-bound registry v base (push at) inside = omega (arith, push-bound walk (numberOf Unregistered) (drop at v) (base + at) (small (numberOf Unregistered) (drop at v) (base + at)), length-drop at v)
-
-  field-inside : (v : List ℕ) (f : Field) → need f ≤ length v → fieldEnd v f ≤ length v
-  unfolding fieldEnd
-  field-inside v (part label shape at width) inside = inside
-  field-inside v (flag label mask) inside = inside
-  field-inside v (sid at) inside = sid-ends v at inside .1
-  field-inside v (array label span element) inside = omega (arith, span-inside span v inside, total-le (elementLength element) (element-fits element) (octetsIn span v))
-  field-inside v (tail at) inside = tail-inside v at inside
-  field-inside v (push at) inside = omega arith
 
   plain-size : (registry : ℕ) (v : List ℕ) (base : ℕ) (f : Field) → isPlain f ≡ true → size (fieldTrees walk registry v base f) ≤ 1
   unfolding fieldTrees

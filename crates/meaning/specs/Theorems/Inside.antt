@@ -25,9 +25,11 @@ use Rattle.meaning.specs.Sid.{sidTrees}
 use Rattle.meaning.specs.SidLaws.{sid-four, sid-three, sid-fewer}
 use Rattle.meaning.specs.Array.{octetsIn, startOf, elementLength, elements, elementTrees, arrayOf}
 use Rattle.meaning.specs.Tail.{lengthAt, innerFits, inner}
-use Rattle.meaning.specs.Value.{taken, Walk, pushBy, fieldTrees, fieldsTrees, valueTrees}
+use Rattle.meaning.specs.Value.{Walk, pushBy, fieldTrees, valueTrees}
 use Rattle.meaning.specs.Area.{entryTrees, walkTrees, noWalk, innerWalk, walked, pushed}
 use Rattle.meaning.specs.Theorems.Plan.{Every, need, Fitting}
+use Rattle.meaning.specs.Theorems.PlanLaws.{every-so}
+use Rattle.meaning.specs.Theorems.Closed.{Closed, push-closed, value-closed}
 use Rattle.meaning.specs.Theorems.EachRecord.{EachRecord, each-record-++}
 use Rattle.meaning.specs.Theorems.Bound.{element-fits, range-least, entry-least, span-inside}
 
@@ -53,6 +55,9 @@ unfolding Within _⧺_
 within-⧺ lo hi none g x y = y
 within-⧺ lo hi (leaf m f) g x y = (x .0, (x .1 .0, within-⧺ lo hi f g (x .1 .1) y))
 within-⧺ lo hi (node m k f) g x y = (x .0, (x .1 .0, (x .1 .1 .0, within-⧺ lo hi f g (x .1 .1 .1) y)))
+
+within-closed : (lo hi : ℕ) → Closed (Within lo hi)
+within-closed lo hi = record { nothing = within-none lo hi; together = within-⧺ lo hi }
 
 -- inside more octets
 within-wider : (lo lo′ hi hi′ : ℕ) → lo′ ≤ lo → hi ≤ hi′ → (f : Forest) → Within lo hi f → Within lo′ hi′ f
@@ -115,8 +120,8 @@ within-array label registry f at ps lo hi from below x = (from, (below, (x, tt))
 
 -- a push
 within-push : (walk : Walk) (registry : ℕ) (area : List ℕ) (base : ℕ) → Within base (base + length area) (walk registry area base) → Within base (base + length area) (pushBy walk registry area base)
-unfolding pushBy remainder
-within-push walk registry area base x = within-⧺ base (base + length area) (walk registry area base) (raw registry (base + covered area) (drop (covered area) area)) x (within-raw registry base (covered area) area)
+unfolding remainder
+within-push walk registry area base x = push-closed (Within base (base + length area)) (within-closed base (base + length area)) walk registry area base x (within-raw registry base (covered area) area)
 
 -- values
 
@@ -149,15 +154,12 @@ module _ (walk : Walk) (inside : (registry : ℕ) (area : List ℕ) (base : ℕ)
       within-wider (base + at) base (base + at + length (drop at v)) (base + length v) (omega arith) (omega (arith, length-drop at v)) _
       (within-push walk (numberOf Unregistered) (drop at v) (base + at) (inside (numberOf Unregistered) (drop at v) (base + at)))
 
-  within-fields : (fs : List Field) → Every (λ (f : Field). need f ≤ length v) fs → Within base (base + length v) (fieldsTrees walk registry v base fs)
-  unfolding fieldsTrees
-  within-fields [] fit = within-none base (base + length v)
-  within-fields (f ∷ fs) fit = within-⧺ base (base + length v) _ _ (within-field f (fit .0)) (within-fields fs (fit .1))
-
   within-value : (fs : List Field) → Every (λ (f : Field). need f ≤ length v) fs → Within base (base + length v) (valueTrees walk registry v base fs)
-  unfolding valueTrees
-  within-value [] fit = within-one Label.value bytes registry base (base + length v) 0 base (base + length v) (omega arith) (omega arith)
-  within-value (f ∷ fs) fit = within-⧺ base (base + length v) _ _ (within-fields (f ∷ fs) fit) (within-raw registry base (taken v (f ∷ fs)) v)
+  within-value fs fit =
+      value-closed (Within base (base + length v)) (within-closed base (base + length v)) walk registry v base
+      (within-one Label.value bytes registry base (base + length v) 0 base (base + length v) (omega arith) (omega arith))
+      (λ n. within-raw registry base n v)
+      fs (every-so (λ (f : Field). need f ≤ length v) (λ (f : Field). Within base (base + length v) (fieldTrees walk registry v base f)) within-field fs fit)
 
 -- areas
 

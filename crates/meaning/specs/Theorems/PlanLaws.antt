@@ -29,6 +29,11 @@ pub every : (P : Field → Type 0) → ((f : Field) → P f) → (fs : List Fiel
 every P x [] = tt
 every P x (f ∷ fs) = (x f, every P x fs)
 
+-- what follows for any field follows for each
+pub every-so : (P Q : Field → Type 0) → ((f : Field) → P f → Q f) → (fs : List Field) → Every P fs → Every Q fs
+every-so P Q so [] x = tt
+every-so P Q so (f ∷ fs) x = (so f (x .0), every-so P Q so fs (x .1))
+
 -- what holds of any plain field holds of each where all are plain
 pub every-plain : (P : Field → Type 0) → ((f : Field) → isPlain f ≡ true → P f) → (fs : List Field) → allPlain fs ≡ true → Every P fs
 every-plain P x [] plain = tt

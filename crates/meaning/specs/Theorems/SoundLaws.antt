@@ -1,6 +1,6 @@
 -- Laws of sound trees: they nest, and each of their records can be read.
 use mathlib.Core.Path.{_≡_, refl}
-use mathlib.Core.Bool.{Bool, true, false, cond}
+use mathlib.Core.Bool.{Bool, true, false}
 use mathlib.Core.List.{List, [], _∷_}
 use Prim.Native.Nat.{ℕ, zero, suc, _+_, _*_, _≤_, _<_}
 use native.Mathlib.Omega.{arith}
@@ -20,6 +20,7 @@ use Rattle.meaning.specs.Label
 use Rattle.meaning.specs.Shape
 use Rattle.meaning.specs.Cut.{each}
 use Rattle.meaning.specs.Tree.{content}
+use Rattle.meaning.specs.Theorems.Closed.{Closed}
 use Rattle.meaning.specs.Theorems.Sound.{Fine, Sound}
 
 -- Fine
@@ -154,10 +155,8 @@ sound-⧺ d (leaf m f) g x y = (x .0, sound-⧺ d f g (x .1) y)
 sound-⧺ zero (node m k f) g x y = x
 sound-⧺ (suc d) (node m k f) g x y = (x .0, (x .1 .0, sound-⧺ (suc d) f g (x .1 .1) y))
 
--- one or the other
-pub sound-cond : (d : ℕ) (b : Bool) (f g : Forest) → Sound d f → Sound d g → Sound d (cond b f g)
-sound-cond d true f g x y = x
-sound-cond d false f g x y = y
+pub sound-closed : (d : ℕ) → Closed (Sound d)
+sound-closed d = record { nothing = sound-none d; together = sound-⧺ d }
 
 -- where more containers are allowed
 pub sound-deeper : (d : ℕ) (f : Forest) → Sound d f → Sound (suc d) f

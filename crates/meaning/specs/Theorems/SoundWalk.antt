@@ -22,10 +22,11 @@ use Rattle.meaning.specs.Tree.{one, over, raw, value, numberIn}
 use Rattle.meaning.specs.Sid.{sidTrees}
 use Rattle.meaning.specs.Array.{startOf, elementTrees, arrayOf}
 use Rattle.meaning.specs.Tail.{lengthAt, innerFits, inner}
-use Rattle.meaning.specs.Value.{taken, Walk, pushBy, fieldTrees, fieldsTrees, valueTrees}
+use Rattle.meaning.specs.Value.{Walk, pushBy, fieldTrees, valueTrees}
 use Rattle.meaning.specs.Area.{entryTrees, walkTrees, noWalk, innerWalk, walked, pushed}
+use Rattle.meaning.specs.Theorems.Closed.{either, push-closed, value-closed}
 use Rattle.meaning.specs.Theorems.Sound.{Sound}
-use Rattle.meaning.specs.Theorems.SoundLaws.{fine-leaf, fine-node, sound-none, sound-⧺, sound-cond, sound-deeper, sound-each}
+use Rattle.meaning.specs.Theorems.SoundLaws.{fine-leaf, fine-node, sound-none, sound-⧺, sound-closed, sound-deeper, sound-each}
 use Rattle.meaning.specs.Theorems.Plan.{isInner, isPlain, Every, Flat}
 use Rattle.meaning.specs.Theorems.PlanLaws.{every, every-plain}
 
@@ -60,14 +61,12 @@ module _ (d registry : ℕ) (low : registry ≤ lastRegistry) where
   sound-sid : (label : Label) (v : List ℕ) (base at : ℕ) → Sound d (sidTrees label registry v base at)
   unfolding sidTrees
   sound-sid label v base at =
-      sound-cond d (leb (at + 4) (length v)) _ _ (sound-number label u32 (base + at) (base + at + 4) (bigEndian v at 4) (omega arith) refl)
-      (sound-cond d (leb (at + 3) (length v)) _ none (sound-number label u32 (base + at) (base + at + 3) (bigEndian v at 3 % 2 ^ 20) (omega arith) refl) (sound-none _))
+      either (Sound d) (leb (at + 4) (length v)) _ _ (sound-number label u32 (base + at) (base + at + 4) (bigEndian v at 4) (omega arith) refl)
+      (either (Sound d) (leb (at + 3) (length v)) _ none (sound-number label u32 (base + at) (base + at + 3) (bigEndian v at 3 % 2 ^ 20) (omega arith) refl) (sound-none _))
 
 -- a push
 sound-push : (d : ℕ) (walk : Walk) (registry : ℕ) (area : List ℕ) (base : ℕ) → registry ≤ lastRegistry → Sound d (walk registry area base) → Sound d (pushBy walk registry area base)
-unfolding pushBy
-sound-push d walk registry area base low x =
-    sound-⧺ d (walk registry area base) (raw registry (base + covered area) (remainder area)) x (sound-raw d registry low (base + covered area) (remainder area))
+sound-push d walk registry area base low x = push-closed (Sound d) (sound-closed d) walk registry area base x (sound-raw d registry low (base + covered area) (remainder area))
 
 -- arrays
 
@@ -112,20 +111,15 @@ module _ (walk : Walk) (registry : ℕ) (low : registry ≤ lastRegistry) (v : L
   sound-field inside (array label span element) = sound-array registry low 1 label (elementTrees element registry) (base + startOf span) _ (sound-element registry low element)
   sound-field inside (tail at) =
       sound-⧺ 2 _ _ (sound-octets 2 registry low Label.srv6Sid ipv6 (base + at) (base + lengthAt at) (omega arith))
-      (sound-cond 2 (innerFits v at) _ none (inside (numberOf Srv6Sid) (inner v at) (base + (lengthAt at + 1)) refl) (sound-none _))
+      (either (Sound 2) (innerFits v at) _ none (inside (numberOf Srv6Sid) (inner v at) (base + (lengthAt at + 1)) refl) (sound-none _))
   sound-field inside (push at) =
       sound-push 2 walk (numberOf Unregistered) (drop at v) (base + at) (omega arith) (inside (numberOf Unregistered) (drop at v) (base + at) refl)
 
-  sound-fields : (d : ℕ) (fs : List Field) → Every (λ f. Sound d (fieldTrees walk registry v base f)) fs → Sound d (fieldsTrees walk registry v base fs)
-  unfolding fieldsTrees
-  sound-fields d [] x = sound-none d
-  sound-fields d (f ∷ fs) x = sound-⧺ d (fieldTrees walk registry v base f) (fieldsTrees walk registry v base fs) (x .0) (sound-fields d fs (x .1))
-
-  sound-value : (d : ℕ) (fs : List Field) → Every (λ f. Sound d (fieldTrees walk registry v base f)) fs → Sound d (valueTrees walk registry v base fs)
-  unfolding valueTrees
-  sound-value d [] x = sound-octets d registry low Label.value bytes base (base + length v) (omega arith)
-  sound-value d (f ∷ fs) x =
-      sound-⧺ d _ _ (sound-fields d (f ∷ fs) x) (sound-raw d registry low (base + taken v (f ∷ fs)) (drop (taken v (f ∷ fs)) v))
+  sound-value : (d : ℕ) (fs : List Field) → Every (λ (f : Field). Sound d (fieldTrees walk registry v base f)) fs → Sound d (valueTrees walk registry v base fs)
+  sound-value d =
+      value-closed (Sound d) (sound-closed d) walk registry v base
+      (sound-octets d registry low Label.value bytes base (base + length v) (omega arith))
+      (λ n. sound-raw d registry low (base + n) (drop n v))
 
 -- areas
 
