@@ -1,11 +1,15 @@
-//! The calls on a tape, the proved library against the model, counted.
+//! The calls on a tape, the proved library against the model and the oracle, counted.
 
 use std::collections::BTreeMap;
 use std::fmt::Arguments;
 
+use crate::brief::Brief;
 use crate::lent::Lent;
 use crate::model::{self, After};
-use crate::native::{self, Outcome};
+use crate::native::{self, Area, Outcome, Record};
+use crate::random::{Random, seed};
+use crate::shown::Shown;
+use crate::{summary, tapes};
 
 /// A call on a tape.
 #[derive(Clone, Copy, Debug, PartialEq, Eq, PartialOrd, Ord)]
@@ -18,6 +22,10 @@ pub enum Call {
     Read,
     /// The nest test, whose answers count as 1 for yes and 0 for no.
     NestTest,
+    /// Walk.
+    Walk,
+    /// Push.
+    Push,
 }
 
 /// How often each call gave each answer, in the library as in the model.
@@ -29,14 +37,14 @@ pub struct Tally {
 impl Tally {
     /// Compares a clear.
     pub fn clear(&mut self, tape: &[u64]) {
-        let name = format_args!("clear of {tape:?}");
+        let name = format_args!("clear of {}", Brief(tape));
         let answer = assert_change(name, tape, &model::clear(tape), native::clear);
         self.add(Call::Clear, answer);
     }
 
     /// Compares a cut back to a mark.
     pub fn cut_back(&mut self, tape: &[u64], mark: u64) {
-        let name = format_args!("cut back to {mark} of {tape:?}");
+        let name = format_args!("cut back to {mark} of {}", Brief(tape));
         let call = |lent: &mut [u64]| native::cut_back(lent, mark);
         let answer = assert_change(name, tape, &model::cut_back(tape, mark), call);
         self.add(Call::CutBack, answer);
@@ -44,7 +52,7 @@ impl Tally {
 
     /// Compares a read of one position.
     pub fn read(&mut self, tape: &[u64], at: u64) {
-        let name = format_args!("read at {at} of {tape:?}");
+        let name = format_args!("read at {at} of {}", Brief(tape));
         let given = lend(name, tape, tape, |lent| native::read(lent, at));
         assert_eq!(given, model::read(tape, at), "{name}");
         self.add(Call::Read, given.1.answer);
@@ -52,13 +60,13 @@ impl Tally {
 
     /// Compares the nest test.
     pub fn nest_test(&mut self, tape: &[u64]) {
-        let name = format_args!("nest test of {tape:?}");
+        let name = format_args!("nest test of {}", Brief(tape));
         let given = lend(name, tape, tape, |lent| native::nest_test(lent));
         assert_eq!(given, model::nest_test(tape), "{name}");
         self.add(Call::NestTest, given.into());
     }
 
-    /// Compares every call, with each of the arguments where it takes one.
+    /// Compares every call that takes no area, with each of the arguments where it takes one.
     pub fn every_call(&mut self, tape: &[u64], arguments: &[u64]) {
         self.clear(tape);
         self.nest_test(tape);
@@ -68,9 +76,35 @@ impl Tally {
         }
     }
 
-    /// Prints the counts, and asserts how many calls were compared.
+    /// Compares a walk.
+    pub fn walk(&mut self, shown: &Shown<'_>, tape: &[u64]) {
+        let name = format_args!("walk of {} onto {}", shown.area, Brief(tape));
+        let answer = assert_append(name, native::walk, shown.area, tape, &shown.walk(tape));
+        self.add(Call::Walk, answer);
+    }
+
+    /// Compares a push.
+    pub fn push(&mut self, shown: &Shown<'_>, tape: &[u64]) {
+        let name = format_args!("push of {} onto {}", shown.area, Brief(tape));
+        let answer = assert_append(name, native::push, shown.area, tape, &shown.push(tape));
+        self.add(Call::Push, answer);
+    }
+
+    /// Compares walks and pushes behind these records, with room for none, for one record too
+    /// few, for exactly enough and for more, and random words in it.
+    pub fn every_room(&mut self, random: &mut Random, shown: &Shown<'_>, earlier: &[Record]) {
+        for room in rooms(shown.needed_by_walk()) {
+            self.walk(shown, &tapes::with_room(random, earlier, room));
+        }
+        for room in rooms(shown.needed_by_push()) {
+            self.push(shown, &tapes::with_room(random, earlier, room));
+        }
+    }
+
+    /// Prints the counts, adds them to the summary, and asserts how many calls were compared.
     pub fn assert_calls(&self, least: u64) {
         println!("{} calls: {:?}", self.calls(), self.counts);
+        summary::add(seed(), self.calls(), self.calls_of(Call::Push));
         assert!(self.calls() >= least, "{} calls", self.calls());
     }
 
@@ -83,8 +117,14 @@ impl Tally {
     }
 
     /// The number of calls compared.
-    fn calls(&self) -> u64 {
+    pub fn calls(&self) -> u64 {
         self.counts.values().sum()
+    }
+
+    /// How often one call was compared.
+    pub fn calls_of(&self, call: Call) -> u64 {
+        let counts = self.counts.iter();
+        counts.filter(|one| one.0.0 == call).map(|one| one.1).sum()
     }
 
     /// Counts one call.
@@ -93,13 +133,39 @@ impl Tally {
     }
 }
 
+/// Rooms at which the answer to a call that needs so many records may change, and a larger one.
+fn rooms(needed: usize) -> Vec<usize> {
+    let mut rooms = vec![0, needed.saturating_sub(1), needed, needed + 2];
+    rooms.dedup();
+    rooms
+}
+
+/// Asserts what a walk or a push gives and leaves, that the area stays, and that a nest stays one.
+/// Gives the answer.
+fn assert_append(
+    name: Arguments<'_>,
+    call: fn(Area<'_>, &mut [u64]) -> Outcome,
+    area: Area<'_>,
+    tape: &[u64],
+    expected: &After,
+) -> u64 {
+    let mut octets = Lent::around(area.octets);
+    let before = octets.clone();
+    let answer = assert_change(name, tape, expected, |lent| {
+        let octets = octets.middle();
+        call(Area { octets, ..area }, lent)
+    });
+    assert_eq!(octets.difference(&before), None, "{name}");
+    answer
+}
+
 /// Asserts what a call that may write gives and leaves, and that a nest stays
 /// one. Gives the answer.
 fn assert_change(
     name: Arguments<'_>,
     tape: &[u64],
     expected: &After,
-    call: impl Fn(&mut [u64]) -> Outcome,
+    call: impl FnOnce(&mut [u64]) -> Outcome,
 ) -> u64 {
     let given = lend(name, tape, &expected.tape, call);
     assert_eq!(given, expected.outcome, "{name}");
@@ -115,63 +181,15 @@ fn lend<Given>(
     name: Arguments<'_>,
     tape: &[u64],
     left: &[u64],
-    call: impl Fn(&mut [u64]) -> Given,
+    call: impl FnOnce(&mut [u64]) -> Given,
 ) -> Given {
     let mut lent = Lent::around(tape);
     let mut wanted = lent.clone();
     wanted.middle().copy_from_slice(left);
     let given = call(lent.middle());
-    assert_eq!(lent, wanted, "{name}");
+    assert_eq!(lent.difference(&wanted), None, "{name}");
     given
 }
 
 #[cfg(test)]
-mod tests {
-    use super::*;
-
-    /// Asserts that a call on four words gives 0 and leaves them as they are.
-    fn assert_idle(call: impl Fn(&mut [u64]) -> Outcome) {
-        let expected = After {
-            outcome: model::bare(0),
-            tape: vec![5, 6, 7, 8],
-        };
-        assert_change(format_args!("the call"), &[5, 6, 7, 8], &expected, call);
-    }
-
-    #[test]
-    fn a_call_that_is_as_expected_passes() {
-        assert_idle(|_| model::bare(0));
-    }
-
-    #[test]
-    #[should_panic(expected = "the call")]
-    fn an_answer_that_is_not_expected_is_seen() {
-        assert_idle(|_| model::bare(7));
-    }
-
-    #[test]
-    #[should_panic(expected = "the call")]
-    fn a_word_that_is_not_expected_is_seen() {
-        assert_idle(|lent| {
-            lent[3] += 1;
-            model::bare(0)
-        });
-    }
-
-    #[test]
-    fn calls_are_counted() {
-        let mut tally = Tally::default();
-        tally.every_call(&[0, 4, 6, 0], &[0, 1]);
-        tally.assert_calls(6);
-        tally.assert_answers(Call::CutBack, &[0, 6], 1);
-        assert_eq!(tally.calls(), 6);
-    }
-
-    #[test]
-    #[should_panic(expected = "Read gave 8 0 times")]
-    fn an_answer_that_was_not_met_is_seen() {
-        let mut tally = Tally::default();
-        tally.read(&[0, 4, 6, 0], 0);
-        tally.assert_answers(Call::Read, &[6, 8], 1);
-    }
-}
+mod tests;

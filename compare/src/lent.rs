@@ -33,6 +33,21 @@ impl<Item: Copy + From<u8>> Lent<Item> {
     }
 }
 
+impl<Item: Copy + PartialEq> Lent<Item> {
+    /// The first place, counted from the first lent item, at which these items
+    /// are not the wanted ones, and both items there.
+    pub fn difference(&self, wanted: &Self) -> Option<(isize, Item, Item)> {
+        assert_eq!(self.items.len(), wanted.items.len(), "items");
+        if self == wanted {
+            return None;
+        }
+        let pairs = self.items.iter().zip(&wanted.items);
+        let mut places = (-(MARGIN as isize)..).zip(pairs);
+        let (place, (item, wanted)) = places.find(|(_, (item, wanted))| item != wanted)?;
+        Some((place, *item, *wanted))
+    }
+}
+
 #[cfg(test)]
 mod tests {
     use super::*;
@@ -59,5 +74,16 @@ mod tests {
             after.items[place] ^= 1;
             assert_ne!(before, after);
         }
+    }
+
+    #[test]
+    fn a_difference_has_its_place() {
+        let wanted = Lent::<u64>::around(&[1, 2, 3]);
+        assert_eq!(wanted.difference(&wanted), None);
+        let mut after = wanted.clone();
+        after.middle()[2] = 7;
+        assert_eq!(after.difference(&wanted), Some((2, 7, 3)));
+        after.items[0] = 9;
+        assert_eq!(after.difference(&wanted), Some((-32, 9, 0x81)));
     }
 }

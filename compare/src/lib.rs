@@ -3,9 +3,14 @@
 #![deny(unsafe_code)]
 
 pub mod agree;
+pub mod areas;
+pub mod brief;
+pub mod cases;
 pub mod lent;
 pub mod model;
 #[allow(unsafe_code)]
 pub mod native;
 pub mod random;
+pub mod shown;
+mod summary;
 pub mod tapes;

@@ -3,10 +3,10 @@
 use crate::native::{Outcome, Record};
 
 /// The words of the header.
-const HEADER: usize = 4;
+pub const HEADER: usize = 4;
 
 /// The words of a record.
-const RECORD: usize = 6;
+pub const RECORD: usize = 6;
 
 /// The greatest number of containers in each other, the outermost counted.
 const MOST_DEEP: u64 = 4;
@@ -38,7 +38,7 @@ pub fn clear(tape: &[u64]) -> After {
             outcome: bare(0),
             tape: [&[0, 4, 6, 0], rest].concat(),
         },
-        None => unchanged(tape, 4),
+        None => unchanged(tape, bare(4)),
     }
 }
 
@@ -49,7 +49,7 @@ pub fn cut_back(tape: &[u64], mark: u64) -> After {
             outcome: bare(0),
             tape: [&[mark], &tape[1..]].concat(),
         },
-        answer => unchanged(tape, answer),
+        answer => unchanged(tape, bare(answer)),
     }
 }
 
@@ -77,16 +77,16 @@ pub fn bare(answer: u64) -> Outcome {
     }
 }
 
-/// A refusal, which leaves the tape as it was.
-fn unchanged(tape: &[u64], answer: u64) -> After {
+/// What a call gives that leaves the tape as it was.
+pub fn unchanged(tape: &[u64], outcome: Outcome) -> After {
     After {
-        outcome: bare(answer),
+        outcome,
         tape: tape.to_vec(),
     }
 }
 
 /// The used records; nothing where answer 4 is due.
-fn used_records(tape: &[u64]) -> Option<&[Record]> {
+pub fn used_records(tape: &[u64]) -> Option<&[Record]> {
     let (header, rest) = tape.split_first_chunk::<HEADER>()?;
     let (places, _) = rest.as_chunks::<RECORD>();
     match *header {

@@ -55,6 +55,28 @@ impl<Place> Guarded<Place> {
 /// The words of a record.
 pub type Record = [u64; 6];
 
+/// An area that is lent to a walk or a push.
+#[derive(Clone, Copy, Debug, PartialEq, Eq)]
+pub struct Area<'a> {
+    /// The number of the registry.
+    pub registry: u64,
+    /// The place of the first octet.
+    pub base: u64,
+    /// The octets to be walked.
+    pub octets: &'a [u8],
+}
+
+/// The form of the library's walk and push calls.
+type OnArea = unsafe extern "C" fn(
+    area: *const u8,
+    area_length: usize,
+    base: u64,
+    registry: u64,
+    tape: *mut u64,
+    words: usize,
+    outcome: *mut Outcome,
+);
+
 /// A record that no call gives.
 const UNSET_RECORD: Record = [u64::MAX; 6];
 
@@ -77,6 +99,26 @@ unsafe extern "C" {
     );
     /// The library's nest test: 1 for yes, 0 for no.
     fn wakkemosut_nest_test(tape: *const u64, length: usize) -> u8;
+    /// The library's walk call.
+    fn wakkemosut_walk(
+        area: *const u8,
+        area_length: usize,
+        base: u64,
+        registry: u64,
+        tape: *mut u64,
+        words: usize,
+        outcome: *mut Outcome,
+    );
+    /// The library's push call.
+    fn wakkemosut_push(
+        area: *const u8,
+        area_length: usize,
+        base: u64,
+        registry: u64,
+        tape: *mut u64,
+        words: usize,
+        outcome: *mut Outcome,
+    );
 }
 
 /// Writes the name of a type to the front of the lent octets.
@@ -190,6 +232,84 @@ pub fn nest_test(tape: &[u64]) -> bool {
 pub fn nest_test_nothing() -> bool {
     // SAFETY: no word is lent.
     yes_or_no(unsafe { wakkemosut_nest_test(std::ptr::null(), 0) })
+}
+
+/// Appends what a walk shows of an area to the tape.
+pub fn walk(area: Area<'_>, tape: &mut [u64]) -> Outcome {
+    append(wakkemosut_walk, area, tape)
+}
+
+/// Appends what a push shows of an area to the tape.
+pub fn push(area: Area<'_>, tape: &mut [u64]) -> Outcome {
+    append(wakkemosut_push, area, tape)
+}
+
+/// Walks no octets onto no tape: null pointers with a length of 0.
+pub fn walk_nothing(registry: u64, base: u64) -> Outcome {
+    append_nothing(wakkemosut_walk, registry, base)
+}
+
+/// Pushes no octets onto no tape: null pointers with a length of 0.
+pub fn push_nothing(registry: u64, base: u64) -> Outcome {
+    append_nothing(wakkemosut_push, registry, base)
+}
+
+/// Walks no octets, a null pointer with a length of 0, onto this tape.
+pub fn walk_no_octets(registry: u64, base: u64, tape: &mut [u64]) -> Outcome {
+    append_no_octets(wakkemosut_walk, registry, base, tape)
+}
+
+/// Pushes no octets, a null pointer with a length of 0, onto this tape.
+pub fn push_no_octets(registry: u64, base: u64, tape: &mut [u64]) -> Outcome {
+    append_no_octets(wakkemosut_push, registry, base, tape)
+}
+
+/// Appends what a call shows of an area to the tape.
+fn append(call: OnArea, area: Area<'_>, tape: &mut [u64]) -> Outcome {
+    let Area {
+        registry,
+        base,
+        octets,
+    } = area;
+    let (start, length) = (octets.as_ptr(), octets.len());
+    let mut outcome = Guarded::holding(Outcome::UNSET);
+    let place = &mut outcome.place;
+    // SAFETY: the area is good for reads, the tape and the outcome are good
+    // for reads and writes for the whole call, no two of them overlap, and
+    // the lengths are those of the lent area and the lent tape.
+    unsafe {
+        call(
+            start,
+            length,
+            base,
+            registry,
+            tape.as_mut_ptr(),
+            tape.len(),
+            place,
+        )
+    };
+    outcome.opened()
+}
+
+/// Lends a call null pointers with a length of 0.
+fn append_nothing(call: OnArea, registry: u64, base: u64) -> Outcome {
+    let (area, tape) = (std::ptr::null(), std::ptr::null_mut());
+    let mut outcome = Guarded::holding(Outcome::UNSET);
+    // SAFETY: the outcome is good for writes for the whole call, and neither
+    // an octet nor a word is lent.
+    unsafe { call(area, 0, base, registry, tape, 0, &mut outcome.place) };
+    outcome.opened()
+}
+
+/// Lends a call a tape, and for the area a null pointer with a length of 0.
+fn append_no_octets(call: OnArea, registry: u64, base: u64, tape: &mut [u64]) -> Outcome {
+    let area = std::ptr::null();
+    let (words, count) = (tape.as_mut_ptr(), tape.len());
+    let mut outcome = Guarded::holding(Outcome::UNSET);
+    // SAFETY: the tape and the outcome are good for reads and writes for the
+    // whole call, the count is that of the lent tape, and no octet is lent.
+    unsafe { call(area, 0, base, registry, words, count, &mut outcome.place) };
+    outcome.opened()
 }
 
 /// What the nest test's octet says.

@@ -1,13 +1,8 @@
 //! Random tapes, and arguments for the calls on them.
 
+use crate::model::{HEADER, RECORD};
 use crate::native::Record;
 use crate::random::Random;
-
-/// The words of the header.
-const HEADER: usize = 4;
-
-/// The words of a record.
-const RECORD: usize = 6;
 
 /// The number of records that this many words have room for.
 pub fn room(words: usize) -> usize {
@@ -40,6 +35,12 @@ pub fn tape(random: &mut Random, records: &[Record], unused: usize) -> Vec<u64> 
     let mut tape = full(records);
     tape.extend((0..unused).map(|_| random.word()));
     tape
+}
+
+/// A tape whose used records are these, with room for so many more and random words in it.
+pub fn with_room(random: &mut Random, records: &[Record], room: usize) -> Vec<u64> {
+    let over = random.below(RECORD as u64) as usize;
+    tape(random, records, RECORD * room + over)
 }
 
 /// A tape of this length whose words are random. Most headers and records are

@@ -1,9 +1,11 @@
-//! Great tapes on a small stack: the proved library against the model.
+//! Great tapes and areas on a small stack: the proved library against the model and the oracle.
 
 use std::thread::Builder;
 
-use compare::model;
-use compare::native::{self, Outcome, Record};
+use compare::areas::entry;
+use compare::model::{self, After};
+use compare::native::{self, Area, Outcome, Record};
+use compare::shown::Shown;
 use compare::tapes;
 
 /// The octets of the stack on which the library runs.
@@ -11,6 +13,12 @@ const STACK: usize = 64 * 1024;
 
 /// The number of records of a great tape.
 const GREAT: u64 = 100_000;
+
+/// The greatest length of an area.
+const MOST_OCTETS: usize = 65_535;
+
+/// The most records that an area of the greatest length needs.
+const MOST_NEEDED: usize = 1 + 7 * MOST_OCTETS / 3;
 
 /// What the calls give and leave.
 #[derive(Debug, PartialEq)]
@@ -36,6 +44,11 @@ fn by_library(tape: &[u64], mark: u64) -> Results {
         clear: native::clear(&mut cleared_tape),
         cleared_tape,
     };
+    on_small_stack(calls)
+}
+
+/// What these calls give, run on a small stack.
+fn on_small_stack<Given: Send + 'static>(calls: impl FnOnce() -> Given + Send + 'static) -> Given {
     let thread = Builder::new().stack_size(STACK).spawn(calls);
     let thread = thread.expect("a thread starts");
     thread.join().expect("the calls end")
@@ -70,6 +83,51 @@ fn assert_great(records: &[Record], nest: bool, answers: [u64; 2]) {
     }
 }
 
+/// What a walk or a push gives and leaves, run on a small stack.
+fn append(
+    call: fn(Area<'_>, &mut [u64]) -> Outcome,
+    registry: u64,
+    octets: &[u8],
+    tape: &[u64],
+) -> After {
+    let (octets, mut tape) = (octets.to_vec(), tape.to_vec());
+    on_small_stack(move || {
+        let base = 100;
+        let area = Area {
+            registry,
+            base,
+            octets: &octets,
+        };
+        let outcome = call(area, &mut tape);
+        After { outcome, tape }
+    })
+}
+
+/// Asserts what both calls give and leave for an area of the greatest length, of these octets over
+/// and over, behind another record; it needs at least so many records.
+fn assert_great_area(registry: u64, octets: &[u8], least: usize) {
+    let octets: Vec<u8> = octets.iter().copied().cycle().take(MOST_OCTETS).collect();
+    let base = 100;
+    let shown = Shown::of(Area {
+        registry,
+        base,
+        octets: &octets,
+    });
+    assert!(shown.needed_by_walk() >= least);
+    let mut tape = tapes::full(&tapes::leaves(1));
+    tape.resize(tape.len() + 6 * MOST_NEEDED, 9);
+    let walk = append(native::walk, registry, &octets, &tape);
+    assert!(walk == shown.walk(&tape), "walk in registry {registry}");
+    let push = append(native::push, registry, &octets, &tape);
+    assert!(push == shown.push(&tape), "push in registry {registry}");
+}
+
+/// An entry of 257 octets whose value is this and then these octets over and over.
+fn long_entry(t: u8, head: &[u8], octets: &[u8]) -> Vec<u8> {
+    let value = head.iter().chain(octets.iter().cycle()).copied();
+    entry(t, &value.take(255).collect::<Vec<u8>>())
+}
+
 /// Arrays in each other, as many as asked for, the innermost empty.
 fn nest(count: u64) -> Vec<Record> {
     let array = |next| [7 * 256, 0, 0, 0, next, count];
@@ -100,4 +158,33 @@ fn four_containers_with_many_leaves_are_no_load_on_the_stack() {
     let mut records = tapes::leaves(GREAT);
     records[..4].copy_from_slice(&nest(GREAT)[..4]);
     assert_great(&records, true, [7, 0]);
+}
+
+#[test]
+fn many_entries_are_no_load_on_the_stack() {
+    for registry in 0..=5 {
+        assert_great_area(registry, &[0, 0], 4 * 32_767);
+    }
+}
+
+#[test]
+fn many_records_are_no_load_on_the_stack() {
+    assert_great_area(1, &[4, 1, 0xA0], MOST_NEEDED);
+}
+
+#[test]
+fn many_areas_inside_are_no_load_on_the_stack() {
+    for (registry, t, head) in [(0, 43, 21), (0, 44, 27), (1, 5, 19)] {
+        let head = [vec![0; head], vec![254 - head as u8]].concat();
+        assert_great_area(registry, &long_entry(t, &head, &[7, 0]), 100_000);
+    }
+    assert_great_area(2, &long_entry(25, &[0, 0], &[7, 0]), 125_000);
+}
+
+#[test]
+fn many_elements_are_no_load_on_the_stack() {
+    let range = [0, 0, 9, 1, 3, 0, 0, 9];
+    assert_great_area(2, &long_entry(2, &[0], &range), 20_000);
+    assert_great_area(2, &long_entry(19, &[], &[7]), 65_000);
+    assert_great_area(2, &long_entry(23, &[], &[7]), 95_000);
 }

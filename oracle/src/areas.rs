@@ -356,7 +356,7 @@ fn entries(row: &[(u8, usize)]) -> Vec<u8> {
 }
 
 /// An entry: type, length, value.
-fn entry(t: u8, value: &[u8]) -> Vec<u8> {
+pub(crate) fn entry(t: u8, value: &[u8]) -> Vec<u8> {
     let length = u8::try_from(value.len()).expect("a value has at most 255 octets");
     [&[t, length], value].concat()
 }
@@ -370,12 +370,12 @@ fn octets(turn: usize, count: usize) -> Vec<u8> {
 }
 
 /// So many octets, all different, of high and low bits.
-fn mixed(count: usize) -> Vec<u8> {
+pub(crate) fn mixed(count: usize) -> Vec<u8> {
     let octets = (0..=u8::MAX).map(|place| place.wrapping_mul(0x9D).wrapping_add(0x96));
     octets.take(count).collect()
 }
 
 /// The same octets with every bit the other way.
-fn flipped(count: usize) -> Vec<u8> {
+pub(crate) fn flipped(count: usize) -> Vec<u8> {
     mixed(count).iter().map(|octet| !octet).collect()
 }

@@ -7,6 +7,7 @@ extern crate self as packet_dissector_core;
 
 mod areas;
 pub mod batch;
+pub mod bench;
 mod cases;
 mod dump;
 pub mod field;
@@ -15,6 +16,7 @@ mod names;
 pub mod packet;
 mod records;
 mod registry;
+mod replay;
 pub mod util;
 
 /// The module of docs/src.
@@ -29,6 +31,7 @@ pub use dump::dump;
 pub use names::{listing, name};
 pub use records::{Push, Record, push};
 pub use registry::LAST_REGISTRY;
+pub use replay::replay;
 
 use std::io::{self, Write};
 

@@ -1,5 +1,5 @@
 //! Prints what the Rust module gives: for cases on standard input, for every
-//! type's name, and for a list of cases of its own.
+//! type's name, and for two lists of cases of its own.
 
 use std::error::Error;
 use std::ffi::OsString;
@@ -10,10 +10,11 @@ use oracle::batch::{mask_cases, push_cases};
 
 /// What the program says when it is called with other words.
 const USAGE: &str = "\
-usage: oracle push   a batch of pushes on standard input; prints the records of each
-       oracle names  prints all names
-       oracle mask   a batch of masks on standard input; prints each masked prefix
-       oracle cases  prints the text of crates/meaning/specs/Examples/RustCases.antt";
+usage: oracle push    a batch of pushes on standard input; prints the records of each
+       oracle names   prints all names
+       oracle mask    a batch of masks on standard input; prints each masked prefix
+       oracle cases   prints the text of crates/meaning/specs/Examples/RustCases.antt
+       oracle replay  writes the octets of crates/replay/stdin";
 
 /// The end of a run: done, or a message for standard error.
 type Run = Result<(), Box<dyn Error>>;
@@ -36,6 +37,7 @@ fn run(words: &[OsString]) -> Run {
         [word] if word == "names" => print_names(),
         [word] if word == "mask" => print_masks(),
         [word] if word == "cases" => print_cases(),
+        [word] if word == "replay" => write_replay(),
         _ => Err(USAGE.into()),
     }
 }
@@ -71,6 +73,11 @@ fn print_masks() -> Run {
 /// Prints what the module gives for its own list of areas.
 fn print_cases() -> Run {
     Ok(io::stdout().write_all(oracle::cases().as_bytes())?)
+}
+
+/// Writes the list of the replay program.
+fn write_replay() -> Run {
+    Ok(io::stdout().write_all(&oracle::replay())?)
 }
 
 /// All octets of standard input.

@@ -17,6 +17,11 @@ impl<'pkt> DissectBuffer<'pkt> {
         Self::default()
     }
 
+    /// Takes all fields off; their memory stays for the next ones.
+    pub fn clear(&mut self) {
+        self.fields.clear();
+    }
+
     /// Appends a field.
     pub fn push_field(
         &mut self,

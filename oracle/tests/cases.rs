@@ -1,54 +1,14 @@
 //! The cases for the prover: the stored file, and what the areas reach.
 
+mod table;
+
 use std::collections::HashSet;
 
 use oracle::{Area, LAST_REGISTRY, areas, cases, is_read, least_length};
+use table::ROWS;
 
 /// The stored cases.
 const STORED: &str = include_str!("../../crates/meaning/specs/Examples/RustCases.antt");
-
-/// Document 01's table, section "The registries": registry, type, least value length.
-const ROWS: [(u8, u8, usize); 39] = [
-    (0, 3, 4),
-    (0, 9, 4),
-    (0, 10, 4),
-    (0, 4, 8),
-    (0, 6, 4),
-    (0, 8, 4),
-    (0, 12, 16),
-    (0, 13, 16),
-    (0, 11, 32),
-    (0, 18, 3),
-    (0, 31, 5),
-    (0, 32, 11),
-    (0, 33, 4),
-    (0, 36, 4),
-    (0, 34, 8),
-    (0, 35, 4),
-    (0, 37, 4),
-    (0, 38, 4),
-    (0, 39, 4),
-    (0, 43, 21),
-    (0, 44, 27),
-    (1, 1, 4),
-    (1, 2, 8),
-    (1, 3, 5),
-    (3, 3, 5),
-    (1, 4, 1),
-    (1, 5, 19),
-    (1, 11, 4),
-    (1, 12, 16),
-    (2, 2, 1),
-    (2, 22, 1),
-    (2, 11, 4),
-    (2, 12, 16),
-    (2, 19, 0),
-    (2, 23, 0),
-    (2, 24, 1),
-    (2, 25, 2),
-    (3, 1, 3),
-    (4, 1, 4),
-];
 
 /// The rows with an array or ranges: registry, type, least value length.
 const ARRAY_ROWS: [(u8, u8, usize); 7] = [

@@ -82,6 +82,14 @@ fn cases_prints_the_cases() {
 }
 
 #[test]
+fn replay_writes_the_list() {
+    let output = run(&["replay"], &[]);
+    assert!(output.stdout == oracle::replay());
+    assert_eq!(String::from_utf8_lossy(&output.stderr), "");
+    assert_eq!(output.status.code(), Some(0));
+}
+
+#[test]
 fn a_cut_off_batch_is_refused() {
     let batch = [&METRIC[..], &EMPTY[..8]].concat();
     assert_refuses(&["push"], &batch, "the batch ends inside a case");

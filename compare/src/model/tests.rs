@@ -53,7 +53,7 @@ fn clear_writes_the_header_only() {
 fn clear_is_refused_under_4_words_only() {
     for length in 0..4 {
         let tape = vec![9; length];
-        assert_eq!(clear(&tape), unchanged(&tape, 4));
+        assert_eq!(clear(&tape), unchanged(&tape, bare(4)));
     }
     for tape in wrong_headers() {
         assert_eq!(clear(&tape).outcome, bare(0));
@@ -63,13 +63,13 @@ fn clear_is_refused_under_4_words_only() {
 #[test]
 fn a_wrong_header_is_answer_4() {
     for tape in wrong_headers() {
-        assert_eq!(cut_back(&tape, 0), unchanged(&tape, 4));
+        assert_eq!(cut_back(&tape, 0), unchanged(&tape, bare(4)));
         assert_eq!(read(&tape, 0), ([0; 6], bare(4)));
         assert!(!nest_test(&tape));
     }
     for length in 0..4 {
         let tape = vec![0; length];
-        assert_eq!(cut_back(&tape, 0), unchanged(&tape, 4));
+        assert_eq!(cut_back(&tape, 0), unchanged(&tape, bare(4)));
         assert_eq!(read(&tape, 0), ([0; 6], bare(4)));
         assert!(!nest_test(&tape));
     }
@@ -100,7 +100,7 @@ fn cut_back_lowers_word_0_only() {
 fn a_mark_past_the_count_is_answer_6() {
     let tape = full(&LISTING);
     for mark in [6, 7, 1 << 32, u64::MAX] {
-        assert_eq!(cut_back(&tape, mark), unchanged(&tape, 6));
+        assert_eq!(cut_back(&tape, mark), unchanged(&tape, bare(6)));
     }
     let passes_its_end = listing_with(9, u64::MAX);
     assert_eq!(cut_back(&passes_its_end, 6).outcome, bare(6));
@@ -110,7 +110,7 @@ fn a_mark_past_the_count_is_answer_6() {
 fn a_kept_record_that_ends_above_the_mark_is_answer_7() {
     let tape = full(&LISTING);
     for mark in 1..5 {
-        assert_eq!(cut_back(&tape, mark), unchanged(&tape, 7));
+        assert_eq!(cut_back(&tape, mark), unchanged(&tape, bare(7)));
     }
     assert_eq!(cut_back(&listing_with(33, 6), 5).outcome, bare(7));
 }

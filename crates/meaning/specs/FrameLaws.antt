@@ -1,11 +1,11 @@
 -- Laws of the framing.
-use mathlib.Core.Path.{_≡_, refl}
-use mathlib.Core.Bool.{Bool, true, false, cond}
+use mathlib.Core.Path.{_≡_, refl, sym}
+use mathlib.Core.Bool.{Bool, true, false, true≢false, _&&_, _||_, cond}
 use mathlib.Core.List.{List, [], _∷_, _++_}
 use Prim.Native.Nat.{ℕ, suc, _+_, _≤_, _<_}
 use native.Mathlib.Omega.{arith}
-use borrow.Author.Tests.{leb-true, le-leb}
-use lib.Dec.{leb}
+use borrow.Author.Tests.{leb-true, le-leb, eqb-true}
+use lib.Dec.{leb, eqb}
 use lib.ListN.{length, getD, length-append, length-drop, List·getD-append}
 use lib.Seq.{drop-append-add, drop-length}
 use Rattle.meaning.specs.Cut.{piecesAfter, pieces, total}
@@ -57,6 +57,27 @@ entry-whole t v = rw (le-leb (length (entry t v)) (length (entry t v)) (omega ar
 pub range-fits : (xs : List ℕ) → rangeLength xs ≤ length xs
 unfolding rangeLength
 range-fits xs = cond-le (isRange xs) (whole (5 + getD xs 4 0) xs) (length xs) (λ e. whole-fits (5 + getD xs 4 0) xs)
+
+-- of a length of 3 or 4
+three-four : (n : ℕ) → (eqb n 3 || eqb n 4) ≡ true → 3 ≤ n
+three-four n is = go (eqb n 3) refl
+  where
+    go : (b : Bool) → eqb n 3 ≡ b → 3 ≤ n
+    go true three = omega (arith, eqb-true n 3 three)
+    go false other = omega (arith, eqb-true n 4 (rw other at is))
+
+-- so a range has 8 octets or more
+pub range-eight : (xs : List ℕ) → 0 < rangeLength xs → 8 ≤ rangeLength xs
+unfolding rangeLength
+range-eight xs some =
+    let n : ℕ = getD xs 4 0 in
+    let is : isRange xs ≡ true = passed (isRange xs) (whole (5 + n) xs) some in
+    let there : 0 < whole (5 + n) xs = rw is at some in
+    rw (is, whole-is (5 + n) xs there) (omega (arith, three-four n (second (eqb (getD xs 3 0) 1) (eqb n 3 || eqb n 4) is)))
+  where
+    second : (a b : Bool) → (a && b) ≡ true → b ≡ true
+    second true b e = e
+    second false b e = absurd (true≢false (sym e))
 
 -- covered, remainder
 

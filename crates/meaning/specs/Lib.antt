@@ -4,8 +4,10 @@ pub mod Cut
 pub mod CutLaws
 pub mod Frame
 pub mod FrameLaws
+pub mod PlaceLaws
 pub mod Field
 pub mod Table
+pub mod TableLaws
 pub mod Tree
 pub mod Sid
 pub mod SidLaws

@@ -1,8 +1,9 @@
 // Big-endian reads of 2, 3, 4 and 8 octets, named as in the Rust. The caller shows that the octets are there.
 ghost use mathlib.Core.Path.{_≡_};
+ghost use mathlib.Core.Bool.{true};
 ghost use Prim.Native.Nat.{_+_, _<_, _≤_};
 ghost use lib.ListN.{length};
-ghost use Rattle.octets.specs.BigEndian.{bigEndian};
+ghost use Rattle.octets.specs.BigEndian.{bigEndian, isWidth};
 
 // The octet at `at`.
 fn octet(s: &[u8], at: usize) -> u8
@@ -42,4 +43,18 @@ pub fn read_be_u64(s: &[u8], at: usize) -> u64
     ensures { λ r. ⌜ r ≡ bigEndian (now (s .entry)) at 8 ⌝ }
 {
     read_be_u32(s, at) as u64 * 4294967296 + read_be_u32(s, at + 4) as u64
+}
+
+// The number in the `width` octets from `at` on.
+pub fn read_be(s: &[u8], at: usize, width: usize) -> u64
+    requires { ⌜ (isWidth width ≡ true) × (at + width ≤ length (now s)) ⌝ }
+    ensures { λ r. ⌜ r ≡ bigEndian (now (s .entry)) at width ⌝ }
+{
+    match width {
+        1 => octet(s, at) as u64,
+        2 => read_be_u16(s, at) as u64,
+        3 => read_be_u24(s, at) as u64,
+        4 => read_be_u32(s, at) as u64,
+        _ => read_be_u64(s, at),
+    }
 }

@@ -1,0 +1,169 @@
+//! The tape, and the calls on it.
+
+use crate::answer::{Laid, Refusal};
+use crate::ffi::{self, Numbers};
+use crate::record::{Position, Record};
+use crate::registry::Registry;
+use crate::trees::Trees;
+
+/// The words of a tape's header.
+const HEADER: usize = 4;
+
+/// The words of a record.
+const RECORD: usize = 6;
+
+/// The most octets of an area.
+pub const LONGEST_AREA: usize = 65_535;
+
+/// The most records that an area of so many octets needs: 1 + 7 n / 3, or none where it is empty.
+pub const fn most_records(octets: usize) -> usize {
+    match octets {
+        0 => 0,
+        _ => 1 + octets.saturating_mul(7) / 3,
+    }
+}
+
+/// A tape: a header and records in words that the caller lends. The words hold all there is of it:
+/// a tape over words that another tape left has that one's records.
+#[derive(Debug)]
+pub struct Tape<'words> {
+    words: &'words mut [u64],
+}
+
+impl<'words> Tape<'words> {
+    /// The words of a tape with room for so many records.
+    pub const fn words_for(records: usize) -> usize {
+        records.saturating_mul(RECORD).saturating_add(HEADER)
+    }
+
+    /// A tape without records.
+    ///
+    /// # Errors
+    ///
+    /// [`Refusal::NoTape`] for under 4 words.
+    pub fn cleared(words: &'words mut [u64]) -> Result<Self, Refusal> {
+        let mut tape = Self::over(words);
+        tape.clear()?;
+        Ok(tape)
+    }
+
+    /// The tape that these words are. They may be anything: where they are no tape, each call says
+    /// so.
+    pub fn over(words: &'words mut [u64]) -> Self {
+        Self { words }
+    }
+
+    /// Takes all records off. Only the header is written.
+    ///
+    /// # Errors
+    ///
+    /// [`Refusal::NoTape`] for under 4 words.
+    pub fn clear(&mut self) -> Result<(), Refusal> {
+        ffi::clear(self.words).done().map(|_| ())
+    }
+
+    /// Appends the records of an area's complete entries. The area's first octet is at place
+    /// `base`.
+    ///
+    /// # Errors
+    ///
+    /// [`Refusal::AreaTooLong`], [`Refusal::BaseTooHigh`], [`Refusal::NoTape`] or
+    /// [`Refusal::NoRoom`], looked for in this order.
+    pub fn walk(&mut self, registry: Registry, base: u64, area: &[u8]) -> Result<Laid, Refusal> {
+        laid(ffi::walk(self.words, registry.number(), base, area))
+    }
+
+    /// Appends what the [walk](Self::walk) does, and beside it a [`Raw`](crate::Label::Raw) record
+    /// for the octets after the last complete entry, if there are any.
+    ///
+    /// # Errors
+    ///
+    /// As of the walk.
+    ///
+    /// ```
+    /// use wakkemosut::{Refusal, Registry, Tape};
+    ///
+    /// let area = [0x12, 0x03, 0x00, 0x00, 0x0A, 0xFF];
+    /// let mut words = [0; Tape::words_for(5)];
+    /// let mut tape = Tape::cleared(&mut words)?;
+    /// let push = tape.push(Registry::Neighbor, 100, &area);
+    /// assert_eq!(push, Err(Refusal::NoRoom { needed: 6 }));
+    /// assert_eq!(tape.walk(Registry::Neighbor, 100, &area)?.covered, 5);
+    /// # Ok::<(), Refusal>(())
+    /// ```
+    pub fn push(&mut self, registry: Registry, base: u64, area: &[u8]) -> Result<Laid, Refusal> {
+        laid(ffi::push(self.words, registry.number(), base, area))
+    }
+
+    /// The position at which the next record will stand: the count of records, as the header has
+    /// it. 0 where there is no header.
+    pub fn mark(&self) -> Position {
+        Position(self.words.first().copied().unwrap_or(0))
+    }
+
+    /// Takes the records off that were appended since the count was `mark`.
+    ///
+    /// # Errors
+    ///
+    /// [`Refusal::NoTape`], [`Refusal::PastCount`] or [`Refusal::CutsContainer`], looked for in
+    /// this order.
+    ///
+    /// ```
+    /// use wakkemosut::{Position, Refusal, Registry, Tape};
+    ///
+    /// let mut words = [0; Tape::words_for(10)];
+    /// let mut tape = Tape::cleared(&mut words)?;
+    /// tape.push(Registry::Binding, 100, &[1, 3, 0, 0, 7])?;
+    /// let mark = tape.mark();
+    /// tape.push(Registry::Binding, 100, &[1, 3, 0, 0, 8])?;
+    /// tape.cut_back(mark)?;
+    /// assert_eq!(tape.mark(), Position(5));
+    /// assert_eq!(tape.cut_back(Position(2)), Err(Refusal::CutsContainer));
+    /// # Ok::<(), Refusal>(())
+    /// ```
+    pub fn cut_back(&mut self, mark: Position) -> Result<(), Refusal> {
+        ffi::cut_back(self.words, mark.0).done().map(|_| ())
+    }
+
+    /// The record at a position.
+    ///
+    /// # Errors
+    ///
+    /// [`Refusal::NoTape`], [`Refusal::PastCount`] or [`Refusal::NoRecord`], looked for in this
+    /// order.
+    pub fn read(&self, at: Position) -> Result<Record<'_>, Refusal> {
+        Record::read(self.words, at)
+    }
+
+    /// Whether the records split into trees, their containers at most 4 deep. They do after any
+    /// call on a tape on which they did before, and on a tape that was cleared.
+    pub fn nests(&self) -> bool {
+        ffi::nest_test(self.words)
+    }
+
+    /// The records at the top from a position on: those that a walk or push appended there, and
+    /// after them those of later ones, without what is inside them.
+    pub fn trees_from(&self, position: Position) -> Trees<'_> {
+        Trees::between(self.words, position, self.mark())
+    }
+
+    /// All words of the tape.
+    pub fn words(&self) -> &[u64] {
+        self.words
+    }
+}
+
+/// What a walk or a push gave.
+fn laid(numbers: Numbers) -> Result<Laid, Refusal> {
+    let Numbers {
+        covered,
+        written,
+        needed,
+        ..
+    } = numbers.done()?;
+    Ok(Laid {
+        covered,
+        written,
+        needed,
+    })
+}

@@ -1,0 +1,136 @@
+//! Going over the records of a tape.
+
+use wakkemosut::{Label, Position, Record, Refusal, Registry, Tape, most_records};
+
+/// A prefix with an SRv6 End SID whose structure is inside, an entry of no meaning and a tail.
+const AREA: [u8; 35] = [
+    0x05, 0x1A, 0x00, 0x00, 0x01, 0x20, 0x01, 0x0D, 0xB8, 0x00, 0x01, 0x00, 0x02, 0x00, 0x00, 0x00,
+    0x00, 0x00, 0x00, 0x00, 0x00, 0x06, 0x01, 0x04, 0x20, 0x10, 0x10, 0x00, 0xFF, 0x03, 0x01, 0x02,
+    0x03, 0xFF, 0x01,
+];
+
+/// A tape's words with room for the area twice, the area pushed onto it once.
+fn pushed() -> Vec<u64> {
+    let mut words = vec![u64::MAX; Tape::words_for(2 * most_records(AREA.len()))];
+    let mut tape = Tape::cleared(&mut words).unwrap();
+    tape.push(Registry::Prefix, 0, &AREA).unwrap();
+    words
+}
+
+/// The positions of records.
+fn positions<'tape>(records: impl Iterator<Item = Result<Record<'tape>, Refusal>>) -> Vec<u64> {
+    records.map(|record| record.unwrap().position.0).collect()
+}
+
+/// The positions of all records inside these, in the order of going down.
+fn all_inside<'tape>(
+    records: impl Iterator<Item = Result<Record<'tape>, Refusal>>,
+    found: &mut Vec<u64>,
+) {
+    for record in records.map(Result::unwrap) {
+        found.push(record.position.0);
+        all_inside(record.children(), found);
+    }
+}
+
+#[test]
+fn children_do_not_count_what_is_inside_them() {
+    let mut words = pushed();
+    let tape = Tape::over(&mut words);
+    assert_eq!(positions(tape.trees_from(Position(0))), [0, 19]);
+    let array = tape.read(Position(0)).unwrap();
+    assert_eq!(positions(array.children()), [1, 15]);
+    let entry = tape.read(Position(1)).unwrap();
+    assert_eq!(positions(entry.children()), [2, 3, 4, 5, 6, 7]);
+    let inner = tape.read(Position(7)).unwrap();
+    assert_eq!(inner.registry, Registry::Srv6Sid);
+    assert_eq!(positions(inner.children()), [8]);
+    assert_eq!(tape.read(Position(2)).unwrap().children().count(), 0);
+}
+
+#[test]
+fn going_down_finds_every_record_once_and_in_order() {
+    let mut words = pushed();
+    let mut tape = Tape::over(&mut words);
+    tape.push(Registry::Prefix, 500, &AREA).unwrap();
+    let mut found = Vec::new();
+    all_inside(tape.trees_from(Position(0)), &mut found);
+    assert!(found.into_iter().eq(0..40));
+}
+
+#[test]
+fn trees_start_where_they_are_asked_to() {
+    let mut words = pushed();
+    let mut tape = Tape::over(&mut words);
+    let mark = tape.mark();
+    assert_eq!(tape.trees_from(mark).count(), 0);
+    tape.push(Registry::Prefix, 500, &AREA).unwrap();
+    assert_eq!(positions(tape.trees_from(mark)), [20, 39]);
+    let octets = tape.trees_from(mark).map(|tree| tree.unwrap().octets);
+    assert!(octets.eq([500..533, 533..535]));
+}
+
+#[test]
+fn a_record_finds_its_octets() {
+    let mut words = pushed();
+    let tape = Tape::over(&mut words);
+    let raw = tape.read(Position(19)).unwrap();
+    assert_eq!(raw.label, Label::Raw);
+    assert_eq!(raw.octets_in(&AREA, 0), Some(&AREA[33..]));
+    assert_eq!(raw.octets_in(&AREA[..34], 0), None);
+    assert_eq!(raw.octets_in(&AREA, 34), None);
+    assert_eq!(raw.octets_in(&AREA, u64::MAX), None);
+}
+
+#[test]
+fn a_record_that_cannot_be_read_ends_the_row() {
+    let mut words = pushed();
+    words[4 + 6 * 3] = 57;
+    let tape = Tape::over(&mut words);
+    let entry = tape.read(Position(1)).unwrap();
+    let children: Vec<_> = entry.children().collect();
+    assert_eq!(children.len(), 2);
+    assert_eq!(children[0].as_ref().unwrap().position, Position(2));
+    assert_eq!(children[1].as_ref().err(), Some(&Refusal::NoRecord));
+}
+
+#[test]
+fn a_row_ends_on_any_words() {
+    for wrong in [0, 1, 2, 19, 20, 21, u64::MAX - 1, u64::MAX] {
+        for word in 0..120 {
+            let mut words = pushed();
+            words[4 + word] = wrong;
+            let tape = Tape::over(&mut words);
+            for at in 0..20 {
+                let inside = tape
+                    .read(Position(at))
+                    .map_or(0, |one| one.children().count());
+                assert!(inside <= 20, "{wrong} at {word}");
+            }
+            assert!(tape.trees_from(Position(0)).count() <= 20);
+        }
+    }
+}
+
+#[test]
+fn a_leaf_has_no_children_whatever_its_words() {
+    let mut words = pushed();
+    words[4 + 6 * 2 + 4] = 3;
+    words[4 + 6 * 2 + 5] = 20;
+    let tape = Tape::over(&mut words);
+    let leaf = tape.read(Position(2)).unwrap();
+    assert_eq!(leaf.descendants, Position(3)..Position(20));
+    assert_eq!(leaf.children().count(), 0);
+}
+
+#[test]
+fn what_is_cut_off_makes_room() {
+    let mut words = [0; Tape::words_for(20)];
+    let mut tape = Tape::cleared(&mut words).unwrap();
+    for _ in 0..3 {
+        tape.push(Registry::Prefix, 0, &AREA).unwrap();
+        assert_eq!(tape.mark(), Position(20));
+        tape.cut_back(Position(0)).unwrap();
+        assert!(tape.nests());
+    }
+}

@@ -1,0 +1,45 @@
+//! Compares random walks and pushes of the proved library with the oracle, as many as asked for.
+
+use std::env;
+use std::process::ExitCode;
+use std::time::Instant;
+
+use compare::agree::Call;
+use compare::cases::Comparison;
+
+/// What the program says when it is called with other words.
+const USAGE: &str = "usage: compare CASES   WAKKEMOSUT_SEED names another seed";
+
+/// The number of cases after which a line is printed.
+const STRIDE: u64 = 1_000_000;
+
+fn main() -> ExitCode {
+    let words: Vec<String> = env::args().skip(1).collect();
+    let cases = match &words[..] {
+        [word] => word.replace(['_', ','], "").parse(),
+        _ => "".parse(),
+    };
+    match cases {
+        Ok(cases) => compare(cases),
+        Err(_) => {
+            eprintln!("{USAGE}");
+            return ExitCode::from(2);
+        }
+    }
+    ExitCode::SUCCESS
+}
+
+/// Compares so many cases; the first difference ends the program with a message.
+fn compare(cases: u64) {
+    let start = Instant::now();
+    let mut comparison = Comparison::of_this_run();
+    for case in 1..=cases {
+        comparison.any_case();
+        if case % STRIDE == 0 {
+            println!("{case} cases, {} seconds", start.elapsed().as_secs());
+        }
+    }
+    comparison.tally.assert_calls(cases);
+    let pushes = comparison.tally.calls_of(Call::Push);
+    println!("{cases} cases, {pushes} of them pushes: no difference");
+}

@@ -1,0 +1,210 @@
+//! Refusals of walk and push, 1 to 5: each exactly when document 01 says, and in its order.
+
+use compare::agree::{Call, Tally};
+use compare::model::bare;
+use compare::native::{self, Area, Outcome};
+use compare::random::Random;
+use compare::shown::{LAST_PLACE, MOST_OCTETS, Shown, outcome};
+use compare::tapes;
+
+/// The octets of document 01's listing, which need 5 records.
+const METRIC: [u8; 5] = [0x12, 3, 0, 0, 10];
+
+/// The records that they need.
+const NEEDED: usize = 5;
+
+/// Numbers of registries, and numbers that are none.
+const REGISTRIES: [u64; 12] = [
+    0,
+    1,
+    2,
+    3,
+    4,
+    5,
+    6,
+    7,
+    256,
+    (1 << 32) + 1,
+    1 << 63,
+    u64::MAX,
+];
+
+/// Lengths of areas, around both ends of what is taken.
+const LENGTHS: [u64; 7] = [
+    0,
+    1,
+    5,
+    MOST_OCTETS - 1,
+    MOST_OCTETS,
+    MOST_OCTETS + 1,
+    2 * MOST_OCTETS + 2,
+];
+
+/// Words of headers, and a wrong word for each place.
+const WRONG_WORDS: [(usize, u64); 10] = [
+    (0, 8),
+    (0, 1 << 32),
+    (0, u64::MAX),
+    (1, 5),
+    (1, 4 + (1 << 32)),
+    (2, 4),
+    (2, 6 + (1 << 63)),
+    (3, 1),
+    (3, 1 << 32),
+    (3, u64::MAX),
+];
+
+/// Bases for an area of this length: small, around the limit, and where a sum may overflow.
+fn bases(length: u64) -> [u64; 11] {
+    let greatest = LAST_PLACE.saturating_sub(length);
+    [
+        0,
+        100,
+        greatest - 1,
+        greatest,
+        greatest + 1,
+        LAST_PLACE,
+        LAST_PLACE + 1,
+        1 << 63,
+        u64::MAX - length,
+        (u64::MAX - length).wrapping_add(1),
+        u64::MAX,
+    ]
+}
+
+/// Tapes with no room, with room around what a walk and a push need, with part of a header, and
+/// with a wrong header.
+fn some_tapes(random: &mut Random, shown: &Shown<'_>) -> Vec<Vec<u64>> {
+    let needed = [shown.needed_by_walk(), shown.needed_by_push()];
+    let near = needed.map(|needed| [needed.saturating_sub(1), needed, needed + 1]);
+    let rooms = [0].into_iter().chain(near.into_iter().flatten());
+    let mut all: Vec<_> = rooms
+        .map(|room| tapes::with_room(random, &tapes::leaves(2), room))
+        .collect();
+    all.extend((0..4).map(|count| [0, 4, 6, 0][..count].to_vec()));
+    for (place, word) in WRONG_WORDS {
+        let mut tape = tapes::with_room(random, &tapes::leaves(2), NEEDED);
+        tape[place] = word;
+        all.push(tape);
+    }
+    all
+}
+
+/// Asserts what both calls give, and that the tape stays where they are refused.
+fn assert_both(area: Area<'_>, tape: &[u64], expected: Outcome) {
+    for call in [native::walk, native::push] {
+        let mut lent = tape.to_vec();
+        assert_eq!(call(area, &mut lent), expected, "{area}");
+        assert!(expected.answer == 0 || lent == tape, "{area}");
+    }
+}
+
+/// What document 01 has both calls give, where these of its conditions for 1 to 5 hold.
+fn first_of(holds: [bool; 5]) -> Outcome {
+    match holds.iter().position(|holds| *holds) {
+        None => outcome(0, 5, 5, 5),
+        Some(4) => outcome(5, 0, 0, 5),
+        Some(place) => bare(place as u64 + 1),
+    }
+}
+
+/// Asserts what both calls give where exactly these conditions hold.
+fn assert_first_of(holds: [bool; 5]) {
+    let [registry, length, base, header, room] = holds;
+    let octets = if length {
+        vec![0; 65_536]
+    } else {
+        METRIC.into()
+    };
+    let room = if room { NEEDED - 1 } else { NEEDED };
+    let mut tape = [0, 4, if header { 7 } else { 6 }, 0].to_vec();
+    tape.resize(4 + 6 * room, 9);
+    let area = Area {
+        registry: if registry { 6 } else { 0 },
+        base: if base { LAST_PLACE } else { 100 },
+        octets: &octets,
+    };
+    assert_both(area, &tape, first_of(holds));
+}
+
+#[test]
+fn the_first_condition_that_holds_gives_the_answer() {
+    for choice in 0..32 {
+        assert_first_of([0, 1, 2, 3, 4].map(|place| choice >> place & 1 == 1));
+    }
+}
+
+#[test]
+fn the_answers_of_document_01_come_out() {
+    let area = |base, octets| Area {
+        registry: 0,
+        base,
+        octets,
+    };
+    let tape = |room: usize| [vec![0, 4, 6, 0], vec![7; 6 * room]].concat();
+    assert_both(area(100, &METRIC), &tape(4), outcome(5, 0, 0, 5));
+    assert_both(area(100, &METRIC), &tape(5), outcome(0, 5, 5, 5));
+    let at_the_limit = 4_294_967_290;
+    assert_both(area(at_the_limit, &METRIC), &tape(9), outcome(0, 5, 5, 5));
+    assert_both(area(at_the_limit, &[0; 6]), &tape(9), bare(3));
+}
+
+#[test]
+fn every_choice_near_a_limit_is_answered_as_document_01_says() {
+    let mut random = Random::of_this_run();
+    let mut tally = Tally::default();
+    let octets = [0, 255, 0x12, 3].repeat(65_536);
+    for registry in REGISTRIES {
+        for length in LENGTHS {
+            for base in bases(length) {
+                let octets = &octets[..length as usize];
+                let shown = Shown::of(Area {
+                    registry,
+                    base,
+                    octets,
+                });
+                for tape in some_tapes(&mut random, &shown) {
+                    tally.walk(&shown, &tape);
+                    tally.push(&shown, &tape);
+                }
+            }
+        }
+    }
+    tally.assert_calls(38_000);
+    for call in [Call::Walk, Call::Push] {
+        tally.assert_answers(call, &[0, 1, 2, 3, 4, 5], 190);
+    }
+}
+
+#[test]
+fn every_registry_from_6_on_is_refused() {
+    let mut tally = Tally::default();
+    let tape = tapes::full(&[]);
+    for registry in (0..=1_000).chain((10..64).map(|bit| 1 << bit)) {
+        let shown = Shown::of(Area {
+            registry,
+            base: 0,
+            octets: &[],
+        });
+        tally.walk(&shown, &tape);
+        tally.push(&shown, &tape);
+    }
+    tally.assert_answers(Call::Walk, &[1], 1_049);
+    tally.assert_answers(Call::Push, &[1], 1_049);
+    tally.assert_calls(2_110);
+}
+
+#[test]
+fn null_pointers_of_length_0_are_taken() {
+    for (registry, base, refusal) in [(0, 0, 4), (5, LAST_PLACE, 4), (6, 0, 1), (0, u64::MAX, 3)] {
+        assert_eq!(native::walk_nothing(registry, base), bare(refusal));
+        assert_eq!(native::push_nothing(registry, base), bare(refusal));
+    }
+    let mut tape = tapes::full(&tapes::leaves(2));
+    let before = tape.clone();
+    for registry in 0..=5 {
+        assert_eq!(native::walk_no_octets(registry, 100, &mut tape), bare(0));
+        assert_eq!(native::push_no_octets(registry, 100, &mut tape), bare(0));
+    }
+    assert_eq!(tape, before);
+}

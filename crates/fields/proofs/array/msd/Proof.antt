@@ -1,0 +1,29 @@
+-- Two leaves, and then the object in front of them.
+use native.Mathlib.Omega.{arith}
+use Rattle.fields.specs.ElementLaws.{msd-made}
+use borrow.Author.Needs.{needs}
+use Rattle.fields.proofs.array.msd.Statement.{statement}
+use Rattle.fields.proofs.array.msd.Tie as tie
+
+add-t8 : tie.Need-add-t8
+add-t8 c = search needs
+
+number-requires : tie.Need-number-requires
+number-requires c κs = search needs
+
+number-requires-2 : tie.Need-number-requires-2
+number-requires-2 c κs = search needs
+
+container-requires : tie.Need-container-requires
+container-requires c κs = search needs
+
+same-length : tie.Need-same-length
+same-length c = search needs
+
+returns : tie.Need-returns
+returns c = msd-made _ _ _ (c .before .before .before .before .before .before .before .before .before .before .number .ensures) (c .before .before .before .before .before .before .number2 .ensures) (c .before .before .container .ensures)
+
+pub msd-spec : {M : Type 1} → statement M
+msd-spec =
+    tie.close
+    (tie.spec add-t8 number-requires number-requires-2 container-requires same-length returns)

@@ -1,0 +1,90 @@
+-- Each turn lays an MSD.
+use native.Mathlib.Omega.{arith}
+use Prim.Native.Nat.{_+_, _*_, _-_, _≤_}
+use native.Mathlib.Nat.{add-sub-cancel-left}
+use lib.ListN.{length, drop, length-drop}
+use lib.Seq.{length-take-le}
+use mathlib.Core.Path.{_≡_, refl}
+use Rattle.tape.specs.Forest.{_⧺_}
+use Rattle.meaning.specs.Field.{msds}
+use Rattle.meaning.specs.Array.{elementTrees}
+use Rattle.meaning.specs.Frame.{whole}
+use Rattle.meaning.specs.FrameLaws.{whole-fits}
+use Rattle.meaning.specs.PlaceLaws.{whole-here, whole-over}
+use Rattle.fields.specs.Cutting.{Cutting, cutting-start, cutting-step, cutting-end}
+use Rattle.fields.proofs.array.msds.Statement.{statement}
+use Rattle.fields.proofs.array.msds.Tie as tie
+
+abbrev Inv-loop : tie.InvT-loop
+Inv-loop octets source tape₀ position n registry base at₀ next₀ tape at next = Cutting (whole 2) (elementTrees msds (source .registry)) (source .base .0) octets tape₀ tape (position .0 + 1) at (next .0) × (next .0 ≤ position .0 + 1 + 3 * at)
+
+abbrev μ-loop : tie.MeasureT-loop
+μ-loop octets source tape₀ position n registry base at₀ next₀ tape at next = length octets - at
+
+add-t11 : tie.Need-add-t11 Inv-loop μ-loop
+add-t11 c = omega arith
+
+loop-holds : tie.Need-loop-holds Inv-loop μ-loop
+loop-holds c = (cutting-start _ _ _ _ _ _, omega arith)
+
+sub-loop : tie.Need-sub-loop Inv-loop μ-loop
+sub-loop c = omega arith
+
+add-msd : tie.Need-add-msd Inv-loop μ-loop
+add-msd c = omega arith
+
+add-msd-2 : tie.Need-add-msd-2 Inv-loop μ-loop
+add-msd-2 c = omega arith
+
+sub-msd : tie.Need-sub-msd Inv-loop μ-loop
+sub-msd c = omega arith
+
+part-msd-start : tie.Need-part-msd-start Inv-loop μ-loop
+part-msd-start c = omega arith
+
+part-msd-end : tie.Need-part-msd-end Inv-loop μ-loop
+part-msd-end c = omega arith
+
+msd-requires : tie.Need-msd-requires Inv-loop μ-loop
+msd-requires c κs = let s = c .before .before .before .before .before .before .before .args .octets .now in let i = c .before .before .before .loop .at in (rw (add-sub-cancel-left i 2) (length-take-le 2 (drop i s) (omega (arith, length-drop i s))), omega arith, omega arith)
+
+add-at : tie.Need-add-at Inv-loop μ-loop
+add-at c = omega arith
+
+loop-less : tie.Need-loop-less Inv-loop μ-loop
+loop-less c = omega arith
+
+loop-again : tie.Need-loop-again Inv-loop μ-loop
+unfolding elementTrees _⧺_
+loop-again c = let s = c .before .before .before .before .before .before .before .before .before .before .args .octets .now in let i = c .before .before .before .before .before .before .loop .at in (cutting-step (whole-fits 2) 2 (c .before .before .before .before .before .before .loop .inv .0) (whole-here 2 s i (omega arith)) (omega arith) (rw (add-sub-cancel-left i 2) at (c .before .before .msd .ensures)), omega (arith, c .before .before .msd .ensures .place))
+
+container-requires : tie.Need-container-requires Inv-loop μ-loop
+container-requires c κs = omega arith
+
+same-length : tie.Need-same-length Inv-loop μ-loop
+same-length c = omega arith
+
+returns : tie.Need-returns Inv-loop μ-loop
+returns c = cutting-end (whole-fits 2) _ _ (c .before .before .before .before .before .loop .inv .0) (whole-over 2 (c .before .before .before .before .before .before .before .before .before .args .octets .now) (c .before .before .before .before .before .loop .at) (omega arith) (omega arith)) (c .before .before .container .ensures) refl
+
+pub msds-spec : {M : Type 1} → statement M
+msds-spec =
+    tie.close
+    (tie.spec
+    Inv-loop
+    μ-loop
+    add-t11
+    loop-holds
+    sub-loop
+    add-msd
+    add-msd-2
+    sub-msd
+    part-msd-start
+    part-msd-end
+    msd-requires
+    add-at
+    loop-less
+    loop-again
+    container-requires
+    same-length
+    returns)

@@ -1,0 +1,66 @@
+-- Each turn lays a number.
+use native.Mathlib.Omega.{arith}
+use Prim.Native.Nat.{_+_, _*_, _-_, _≤_}
+use lib.ListN.{length}
+use mathlib.Core.Path.{refl}
+use Rattle.octets.specs.BigEndianLaws.{bigEndian-piece, width-some}
+use Rattle.meaning.specs.Frame.{whole}
+use Rattle.meaning.specs.FrameLaws.{whole-fits}
+use Rattle.meaning.specs.PlaceLaws.{whole-here, whole-over}
+use Rattle.fields.specs.Shows.{numberTrees}
+use Rattle.fields.specs.Cutting.{Cutting, cutting-start, cutting-step, cutting-end}
+use Rattle.fields.proofs.array.numbers.Statement.{statement}
+use Rattle.fields.proofs.array.numbers.Tie as tie
+
+abbrev Inv-loop : tie.InvT-loop
+Inv-loop octets source array label shape width tape₀ position n at₀ next₀ tape at next = Cutting (whole width) (numberTrees label shape width (source .registry)) (source .base .0) octets tape₀ tape (position .0 + 1) at (next .0) × (next .0 ≤ position .0 + 1 + 3 * at)
+
+abbrev μ-loop : tie.MeasureT-loop
+μ-loop octets source array label shape width tape₀ position n at₀ next₀ tape at next = length octets - at
+
+add-t12 : tie.Need-add-t12 Inv-loop μ-loop
+add-t12 c = omega arith
+
+loop-holds : tie.Need-loop-holds Inv-loop μ-loop
+loop-holds c = (cutting-start _ _ _ _ _ _, omega arith)
+
+sub-loop : tie.Need-sub-loop Inv-loop μ-loop
+sub-loop c = omega arith
+
+number-requires : tie.Need-number-requires Inv-loop μ-loop
+number-requires c κs = (c .before .before .before .before .before .before .pre .0, omega arith, omega arith, omega arith)
+
+add-at : tie.Need-add-at Inv-loop μ-loop
+add-at c = omega arith
+
+loop-less : tie.Need-loop-less Inv-loop μ-loop
+loop-less c = omega (arith, width-some (c .before .before .before .before .before .before .before .before .before .args .width) (c .before .before .before .before .before .before .before .before .before .pre .0))
+
+loop-again : tie.Need-loop-again Inv-loop μ-loop
+loop-again c = let g = c .before .before .before .before .before .before .before .before .before .args in let i = c .before .before .before .before .before .loop .at in let some = width-some (g .width) (c .before .before .before .before .before .before .before .before .before .pre .0) in (cutting-step (whole-fits (g .width)) (g .width) (c .before .before .before .before .before .loop .inv .0) (whole-here (g .width) (g .octets .now) i (omega arith)) (omega arith) (rw (bigEndian-piece (g .octets .now) i (g .width)) (c .before .before .number .ensures)), omega (arith, c .before .before .number .ensures .place))
+
+container-requires : tie.Need-container-requires Inv-loop μ-loop
+container-requires c κs = omega arith
+
+same-length : tie.Need-same-length Inv-loop μ-loop
+same-length c = omega arith
+
+returns : tie.Need-returns Inv-loop μ-loop
+returns c = let g = c .before .before .before .before .before .before .before .before .before .args in cutting-end (whole-fits (g .width)) _ _ (c .before .before .before .before .before .loop .inv .0) (whole-over (g .width) (g .octets .now) (c .before .before .before .before .before .loop .at) (omega arith) (omega arith)) (c .before .before .container .ensures) refl
+
+pub numbers-spec : {M : Type 1} → statement M
+numbers-spec =
+    tie.close
+    (tie.spec
+    Inv-loop
+    μ-loop
+    add-t12
+    loop-holds
+    sub-loop
+    number-requires
+    add-at
+    loop-less
+    loop-again
+    container-requires
+    same-length
+    returns)

@@ -1,0 +1,48 @@
+-- One law for every loop that lays pieces one after the other, and then the array in front of them.
+use mathlib.Core.Path.{_≡_, refl, sym, ap, _∙_}
+use mathlib.Core.List.{List}
+use Prim.Native.Nat.{ℕ, _+_, _≤_, _<_}
+use native.Mathlib.Nat.{add-zero}
+use native.Mathlib.Omega.{arith}
+use lib.ListN.{length, take, drop, length-drop}
+use Rattle.tape.specs.Record.{containerRecord}
+use Rattle.tape.specs.Tape.{putAt}
+use Rattle.tape.specs.Forest.{Forest}
+use Rattle.tape.specs.Laid.{Laid}
+use Rattle.tape.specs.LaidLaws.{laid-node, laid-length}
+use Rattle.tape.specs.Laying.{Laying, laying-start, laying-step, laying-end}
+use Rattle.meaning.specs.Tree.{content}
+use Rattle.meaning.specs.Cut.{Measure, pieces, total, each}
+use Rattle.meaning.specs.PlaceLaws.{left, more, left-step, more-step, left-end, more-end}
+use Rattle.fields.specs.Shows.{Shows, arrayBy}
+use Rattle.fields.specs.declared.Shown.{Shown}
+
+-- pieces cut by m out of s, whose first octet stands at base: those before octet i are laid from position at up to next
+pub record Cutting (m : Measure) (f : List ℕ → ℕ → Forest) (base : ℕ) (s t u : List ℕ) (at i next : ℕ) : Type 0 where
+  pub inside : i ≤ length s
+  pub same : length u ≡ length t
+  pub laying : Laying (left m f base s) (more m f base s) t u at i next
+
+-- before the first turn
+pub cutting-start : (m : Measure) (f : List ℕ → ℕ → Forest) (base : ℕ) (s t : List ℕ) (at : ℕ) → Cutting m f base s t t at 0 at
+cutting-start m f base s t at = record { inside = omega arith; same = refl; laying = laying-start (left m f base s) (more m f base s) t at }
+
+module _ {m : Measure} (fits : (xs : List ℕ) → m xs ≤ length xs) {f : List ℕ → ℕ → Forest} {base : ℕ} {s t u : List ℕ} where
+  -- one turn, over a piece of w octets
+  pub cutting-step : {v : List ℕ} {at i next next′ : ℕ} (w : ℕ) → Cutting m f base s t u at i next → m (drop i s) ≡ w → 0 < w
+      → Laid (f (take w (drop i s)) (base + i)) u v next next′ → Cutting m f base s t v at (i + w) next′
+  cutting-step {i = i} w c is some laid =
+      record {
+        inside = omega (arith, c .inside, rw is at (fits (drop i s)), length-drop i s);
+        same = laid-length laid ∙ c .same;
+        laying = laying-step (i + w) (f (take w (drop i s)) (base + i)) (c .laying) (left-step m fits f base s i w is some) (more-step m fits f base s i w is some) laid;
+      }
+
+  -- after the last turn the array is put in front
+  pub cutting-end : {v : List ℕ} {position i : ℕ} {r : Shown} (label registry : ℕ) → Cutting m f base s t u (position + 1) i (r .next .0) → m (drop i s) ≡ 0
+      → v ≡ putAt u position (containerRecord (content label 7 registry base (base + i) 0) (position + 1) (r .next .0)) → r .covered ≡ i
+      → Shows (total (pieces m s)) (arrayBy label registry f base (pieces m s)) t v position r
+  cutting-end {v} {position} {i} {r} label registry c stops put covers =
+      let e = laying-end (c .laying) (left-end m fits f base s i stops) (more-end m fits f base s i stops) in
+      let k : Laid (each f base (pieces m s)) t u (position + 1) (r .next .0) = rw add-zero at (e .0) in
+      record { covers = covers ∙ e .1; laid = rw (← e .1) (laid-node (content label 7 registry base (base + i) 0) k put) }

@@ -1,0 +1,4 @@
+pub mod Shows
+pub mod ShowsLaws
+pub mod Cutting
+pub mod ElementLaws

@@ -1,0 +1,34 @@
+-- What functions that lay the fields of a value promise.
+use mathlib.Core.Path.{_≡_}
+use mathlib.Core.Bool.{cond}
+use mathlib.Core.List.{List}
+use Prim.Native.Nat.{ℕ, _+_, _%_, _^_}
+use lib.Dec.{leb}
+use lib.ListN.{length}
+use Rattle.octets.specs.BigEndian.{bigEndian}
+use Rattle.tape.specs.Forest.{Forest, none, leaf, node}
+use Rattle.tape.specs.Laid.{Laid}
+use Rattle.meaning.specs.Tree.{content}
+use Rattle.meaning.specs.Cut.{total, each}
+use Rattle.fields.specs.declared.Shown.{Shown}
+
+-- trees were laid, up to an octet
+pub record Shows (octets : ℕ) (trees : Forest) (t u : List ℕ) (at : ℕ) (r : Shown) : Type 0 where
+  pub covers : r .covered ≡ octets
+  pub laid : Laid trees t u at (r .next .0)
+
+-- how many octets a SID has, where 3 are left or more ..
+abbrev pub sidWidth : List ℕ → ℕ → ℕ
+sidWidth v at = cond (leb (at + 4) (length v)) 4 3
+
+-- .. and its number
+abbrev pub sidNumber : List ℕ → ℕ → ℕ
+sidNumber v at = cond (leb (at + 4) (length v)) (bigEndian v at 4) (bigEndian v at 3 % 2 ^ 20)
+
+-- an element that is a number: label, shape, width, registry
+abbrev pub numberTrees : ℕ → ℕ → ℕ → ℕ → List ℕ → ℕ → Forest
+numberTrees label shape width registry p at = leaf (content label shape registry at (at + width) (bigEndian p 0 width)) none
+
+-- an array over pieces, by the number of its label
+abbrev pub arrayBy : ℕ → ℕ → (List ℕ → ℕ → Forest) → ℕ → List (List ℕ) → Forest
+arrayBy label registry f at ps = node (content label 7 registry at (at + total ps) 0) (each f at ps) none

@@ -1,0 +1,85 @@
+// Parts of a value: a number, an address or plain octets, a bit.
+use crate::Source;
+use octets::read::read_be;
+use tape::Content;
+use tape::Octet;
+use tape::Position;
+use tape::lay;
+use tape::shape::Shape;
+ghost use mathlib.Core.Path.{_≡_};
+ghost use mathlib.Core.Bool.{true};
+ghost use Prim.Native.Nat.{_+_, _/_, _%_, _≤_, _<_, _^_};
+ghost use lib.ListN.{length, getD};
+ghost use Rattle.octets.specs.BigEndian.{bigEndian, isWidth};
+ghost use Rattle.tape.specs.Forest.{leaf, none};
+ghost use Rattle.tape.specs.Laid.{Laid};
+ghost use Rattle.meaning.specs.Tree.{content};
+
+// Lays a leaf over the `width` octets from `at` on.
+pub fn part(
+    source: Source,
+    label: u8,
+    shape: u8,
+    at: usize,
+    width: usize,
+    number: u64,
+    tape: &mut [u64],
+    position: Position,
+) -> Position
+    requires { ⌜ (source .base .0 + at + width < 2 ^ 32) × (position .0 < 2 ^ 63) ⌝ }
+    ensures { λ r. ⌜ Laid (leaf (content label shape (source .registry) (source .base .0 + at) (source .base .0 + at + width) number) none) (now (tape .entry)) (now (tape .exit)) (position .0) (r .0) ⌝ }
+{
+    let start = source.base.0 + at;
+    let content = Content {
+        label,
+        shape,
+        registry: source.registry,
+        start: Octet(start),
+        end: Octet(start + width),
+        number,
+    };
+    lay::leaf(tape, position, content)
+}
+
+// Lays the number in the `width` octets of a value from `at` on.
+pub fn number(
+    value: &[u8],
+    source: Source,
+    label: u8,
+    shape: u8,
+    at: usize,
+    width: usize,
+    tape: &mut [u64],
+    position: Position,
+) -> Position
+    requires { ⌜ (isWidth width ≡ true) × (at + width ≤ length (now value)) × (source .base .0 + length (now value) < 2 ^ 32) × (position .0 < 2 ^ 63) ⌝ }
+    ensures { λ r. ⌜ Laid (leaf (content label shape (source .registry) (source .base .0 + at) (source .base .0 + at + width) (bigEndian (now (value .entry)) at width)) none) (now (tape .entry)) (now (tape .exit)) (position .0) (r .0) ⌝ }
+{
+    let number = read_be(value, at, width);
+    part(source, label, shape, at, width, number, tape, position)
+}
+
+// Lays a bit of a value's octet 0, as 0 or 1.
+pub fn flag(
+    value: &[u8],
+    source: Source,
+    label: u8,
+    mask: u8,
+    tape: &mut [u64],
+    position: Position,
+) -> Position
+    requires { ⌜ (1 ≤ mask) × (1 ≤ length (now value)) × (source .base .0 + length (now value) < 2 ^ 32) × (position .0 < 2 ^ 63) ⌝ }
+    ensures { λ r. ⌜ Laid (leaf (content label 0 (source .registry) (source .base .0) (source .base .0 + 1) (getD (now (value .entry)) 0 0 / mask % 2)) none) (now (tape .entry)) (now (tape .exit)) (position .0) (r .0) ⌝ }
+{
+    let bit = value[0] / mask % 2;
+    let start = source.base.0;
+    let content = Content {
+        label,
+        shape: Shape::U8,
+        registry: source.registry,
+        start: Octet(start),
+        end: Octet(start + 1),
+        number: bit as u64,
+    };
+    lay::leaf(tape, position, content)
+}
