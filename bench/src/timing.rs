@@ -12,6 +12,9 @@ const ROUNDS: usize = 51;
 /// How long one timing takes at the least.
 const SPAN: Duration = Duration::from_millis(2);
 
+/// How often so many passes must take a span.
+const TRIES: usize = 3;
+
 /// The median times of both, in nanoseconds for a push.
 #[derive(Clone, Copy, Debug)]
 pub struct Times {
@@ -28,22 +31,17 @@ impl Times {
         ours: &mut impl Pusher<'areas>,
         rust: &mut impl Pusher<'areas>,
     ) -> Self {
-        let passes = passes(areas, ours).max(passes(areas, rust));
+        let passes_of_ours = passes(areas, ours);
+        let passes_of_rust = passes(areas, rust);
         let mut of_ours = Vec::new();
         let mut of_rust = Vec::new();
-        for round in 0..ROUNDS {
-            if round % 2 == 0 {
-                of_ours.push(time(areas, passes, ours));
-                of_rust.push(time(areas, passes, rust));
-            } else {
-                of_rust.push(time(areas, passes, rust));
-                of_ours.push(time(areas, passes, ours));
-            }
+        for _ in 0..ROUNDS {
+            of_ours.push(time(areas, passes_of_ours, ours));
+            of_rust.push(time(areas, passes_of_rust, rust));
         }
-        let pushes = (passes * areas.len()) as f64;
         Self {
-            rust: median(of_rust).as_nanos() as f64 / pushes,
-            ours: median(of_ours).as_nanos() as f64 / pushes,
+            rust: a_push(median(of_rust), passes_of_rust * areas.len()),
+            ours: a_push(median(of_ours), passes_of_ours * areas.len()),
         }
     }
 
@@ -53,10 +51,11 @@ impl Times {
     }
 }
 
-/// How many passes over these areas take a span.
+/// How many passes over these areas take a span, each of several times: one that is held up does
+/// not count.
 fn passes<'areas>(areas: &[&'areas Area], pusher: &mut impl Pusher<'areas>) -> usize {
     let mut passes = 1;
-    while time(areas, passes, pusher) < SPAN {
+    while (0..TRIES).any(|_| time(areas, passes, pusher) < SPAN) {
         passes *= 2;
     }
     passes
@@ -77,6 +76,11 @@ fn time<'areas>(
     start.elapsed()
 }
 
+/// The nanoseconds of one push, where so many take this time.
+fn a_push(time: Duration, pushes: usize) -> f64 {
+    time.as_nanos() as f64 / pushes as f64
+}
+
 /// The middle one by size.
 fn median(mut times: Vec<Duration>) -> Duration {
     times.sort_unstable();
@@ -91,6 +95,39 @@ mod tests {
     fn the_median_is_in_the_middle() {
         let times = [9, 1, 8, 2, 5].map(Duration::from_millis);
         assert_eq!(median(times.to_vec()), Duration::from_millis(5));
+    }
+
+    /// A pusher that counts its pushes, and is held up in the first.
+    struct Counting(usize);
+
+    impl Pusher<'_> for Counting {
+        fn push(&mut self, _area: &Area) -> usize {
+            if self.0 == 0 {
+                std::thread::sleep(SPAN);
+            }
+            self.0 += 1;
+            self.0
+        }
+    }
+
+    #[test]
+    fn one_pass_that_is_held_up_does_not_count() {
+        let areas = crate::areas::areas();
+        let mut counting = Counting(0);
+        assert!(passes(&[&areas[0]], &mut counting) > 1);
+    }
+
+    #[test]
+    fn a_pass_pushes_each_area_once() {
+        let areas = crate::areas::areas();
+        let mut counting = Counting(1);
+        time(&[&areas[0], &areas[1]], 5, &mut counting);
+        assert_eq!(counting.0, 11);
+    }
+
+    #[test]
+    fn a_push_is_one_of_many() {
+        assert_eq!(a_push(Duration::from_micros(9), 4), 2250.0);
     }
 
     #[test]

@@ -13,6 +13,7 @@
 #define BASE 100
 #define ROOM 5
 #define WORDS WAKKEMOSUT_TAPE_WORDS(ROOM)
+#define MORE_WORDS WAKKEMOSUT_TAPE_WORDS(ROOM + 2)
 #define GUARD UINT64_C(0x5A5AA5A501234567)
 #define GUARD_OCTET 0xC3
 
@@ -27,8 +28,8 @@ static const uint64_t LISTING[ROOM][8] = {
     {WAKKEMOSUT_LABEL_LENGTH, WAKKEMOSUT_SHAPE_U8, 0, 101, 102, 3, 0, 0},
     {WAKKEMOSUT_LABEL_TE_DEFAULT_METRIC, WAKKEMOSUT_SHAPE_U32, 0, 102, 105, 10, 0, 0}};
 
-/* A tape with room for the third case and a word after it that must stay, and the numbers of the last call. */
-static uint64_t tape[WORDS + 1];
+/* A tape with room for the third case and more, a word after it that must stay, and the numbers of the last call. */
+static uint64_t tape[MORE_WORDS + 1];
 static uint64_t numbers[WAKKEMOSUT_NUMBERS + 1];
 static unsigned checks;
 
@@ -46,7 +47,7 @@ static void check(int held, const char *what, int line) {
 /* Fills the tape and the numbers with words that no call gives. */
 static void fill(void) {
     size_t at;
-    for (at = 0; at <= WORDS; at++)
+    for (at = 0; at <= MORE_WORDS; at++)
         tape[at] = GUARD;
     for (at = 0; at <= WAKKEMOSUT_NUMBERS; at++)
         numbers[at] = GUARD;
@@ -70,7 +71,7 @@ static int used(uint64_t count) {
     return memcmp(tape, header, sizeof header) == 0;
 }
 
-/* Whether so many words from a place on were never written. */
+/* Whether no word from a place on and before another was ever written. */
 static int untouched(size_t from, size_t to) {
     for (; from < to; from++)
         if (tape[from] != GUARD)
@@ -84,6 +85,22 @@ static void words_of(const uint64_t line[8], uint64_t words[6]) {
     memcpy(words + 1, line + 3, 5 * sizeof *line);
 }
 
+/* Whether the records of the listing stand on the tape from a position on, children moved as far. */
+static int listed_from(size_t position) {
+    size_t at;
+    for (at = 0; at < ROOM; at++) {
+        uint64_t wanted[6];
+        words_of(LISTING[at], wanted);
+        if (wanted[WAKKEMOSUT_WORD_CHILDREN_END] > 0) {
+            wanted[WAKKEMOSUT_WORD_FIRST_CHILD] += position;
+            wanted[WAKKEMOSUT_WORD_CHILDREN_END] += position;
+        }
+        if (memcmp(tape + WAKKEMOSUT_TAPE_WORDS(position + at), wanted, sizeof wanted) != 0)
+            return 0;
+    }
+    return 1;
+}
+
 /* Pushes the third case with this registry and base onto the tape, which has this many words. */
 static void push_metric(uint64_t registry, uint64_t base, size_t words) {
     wakkemosut_push(METRIC, sizeof METRIC, base, registry, tape, words, numbers);
@@ -92,42 +109,56 @@ static void push_metric(uint64_t registry, uint64_t base, size_t words) {
 static void test_clear(void) {
     fill();
     wakkemosut_clear(tape, 3, numbers);
-    CHECK(gave(WAKKEMOSUT_NO_TAPE, 0, 0, 0) && untouched(0, WORDS + 1));
+    CHECK(gave(WAKKEMOSUT_NO_TAPE, 0, 0, 0) && untouched(0, MORE_WORDS + 1));
     wakkemosut_clear(NULL, 0, numbers);
     CHECK(gave(WAKKEMOSUT_NO_TAPE, 0, 0, 0));
     wakkemosut_clear(tape, WORDS, numbers);
     CHECK(gave(WAKKEMOSUT_DONE, 0, 0, 0));
-    CHECK(used(0) && untouched(4, WORDS + 1));
+    CHECK(used(0) && untouched(4, MORE_WORDS + 1));
 }
 
 static void test_push(void) {
-    size_t at;
     start();
     push_metric(WAKKEMOSUT_REGISTRY_NEIGHBOR, BASE, WORDS);
     CHECK(gave(WAKKEMOSUT_DONE, 5, 5, 5));
-    CHECK(used(5) && untouched(WORDS, WORDS + 1));
-    for (at = 0; at < ROOM; at++) {
-        uint64_t wanted[6];
-        words_of(LISTING[at], wanted);
-        CHECK(memcmp(tape + WAKKEMOSUT_TAPE_WORDS(at), wanted, sizeof wanted) == 0);
-    }
+    CHECK(used(5) && listed_from(0));
+    CHECK(untouched(WORDS, MORE_WORDS + 1));
 }
 
-/* A tape that is full already, with room 4, and of no header; an empty area; a tail that is no entry. */
+/* A push after another, and one whose inner area is of another registry. */
+static void test_push_again(void) {
+    const uint8_t capability[5] = {0x19, 0x03, 0x80, 0x00, 0x07};
+    start();
+    wakkemosut_push(METRIC, 1, BASE, WAKKEMOSUT_REGISTRY_NEIGHBOR, tape, MORE_WORDS, numbers);
+    CHECK(gave(WAKKEMOSUT_DONE, 0, 2, 2) && used(2));
+    push_metric(WAKKEMOSUT_REGISTRY_NEIGHBOR, BASE, MORE_WORDS);
+    CHECK(gave(WAKKEMOSUT_DONE, 5, 5, 5));
+    CHECK(used(7) && listed_from(2) && untouched(MORE_WORDS, MORE_WORDS + 1));
+    wakkemosut_clear(tape, MORE_WORDS, numbers);
+    wakkemosut_push(capability, sizeof capability, BASE, WAKKEMOSUT_REGISTRY_ROUTER_CAPABILITY, tape, MORE_WORDS, numbers);
+    CHECK(gave(WAKKEMOSUT_DONE, 5, 7, 7) && used(7));
+    CHECK(tape[WAKKEMOSUT_TAPE_WORDS(4) + WAKKEMOSUT_WORD_NUMBER] == 32768);
+    CHECK(WAKKEMOSUT_REGISTRY_OF(tape[WAKKEMOSUT_TAPE_WORDS(4)]) == WAKKEMOSUT_REGISTRY_ROUTER_CAPABILITY);
+    CHECK(WAKKEMOSUT_REGISTRY_OF(tape[WAKKEMOSUT_TAPE_WORDS(5)]) == WAKKEMOSUT_REGISTRY_UNREGISTERED);
+    CHECK(WAKKEMOSUT_REGISTRY_OF(tape[WAKKEMOSUT_TAPE_WORDS(6)]) == WAKKEMOSUT_REGISTRY_UNREGISTERED);
+}
+
+/* Room 4; an empty area; octets that are no entry; room that other records use. */
 static void test_push_room(void) {
     const uint8_t cut_off[4] = {0x12, 0x03, 0x00, 0x00};
     start();
     push_metric(WAKKEMOSUT_REGISTRY_NEIGHBOR, BASE, WAKKEMOSUT_TAPE_WORDS(4));
     CHECK(gave(WAKKEMOSUT_NO_ROOM, 0, 0, 5));
-    CHECK(used(0) && untouched(4, WORDS + 1));
+    CHECK(used(0) && untouched(4, MORE_WORDS + 1));
     wakkemosut_push(NULL, 0, BASE, WAKKEMOSUT_REGISTRY_NEIGHBOR, tape, WORDS, numbers);
-    CHECK(gave(WAKKEMOSUT_DONE, 0, 0, 0) && used(0) && untouched(4, WORDS + 1));
+    CHECK(gave(WAKKEMOSUT_DONE, 0, 0, 0) && used(0) && untouched(4, MORE_WORDS + 1));
     wakkemosut_push(cut_off, sizeof cut_off, BASE, WAKKEMOSUT_REGISTRY_NEIGHBOR, tape, WORDS, numbers);
     CHECK(gave(WAKKEMOSUT_DONE, 0, 2, 2) && used(2));
+    CHECK(tape[4 + WAKKEMOSUT_WORD_START] == 100 && tape[4 + WAKKEMOSUT_WORD_END] == 100);
     CHECK(WAKKEMOSUT_LABEL_OF(tape[10]) == WAKKEMOSUT_LABEL_RAW && WAKKEMOSUT_SHAPE_OF(tape[10]) == WAKKEMOSUT_SHAPE_BYTES);
-    CHECK(tape[10 + WAKKEMOSUT_WORD_START] == 100 && tape[10 + WAKKEMOSUT_WORD_END] == 104 && untouched(16, WORDS + 1));
+    CHECK(tape[10 + WAKKEMOSUT_WORD_START] == 100 && tape[10 + WAKKEMOSUT_WORD_END] == 104 && untouched(16, MORE_WORDS + 1));
     push_metric(WAKKEMOSUT_REGISTRY_NEIGHBOR, BASE, WORDS);
-    CHECK(gave(WAKKEMOSUT_NO_ROOM, 0, 0, 5) && used(2) && untouched(16, WORDS + 1));
+    CHECK(gave(WAKKEMOSUT_NO_ROOM, 0, 0, 5) && used(2) && untouched(16, MORE_WORDS + 1));
 }
 
 static void test_push_refusals(void) {
@@ -144,7 +175,7 @@ static void test_push_refusals(void) {
     CHECK(gave(WAKKEMOSUT_BASE_TOO_HIGH, 0, 0, 0));
     push_metric(WAKKEMOSUT_REGISTRY_NEIGHBOR, BASE, 3);
     CHECK(gave(WAKKEMOSUT_NO_TAPE, 0, 0, 0));
-    CHECK(used(0) && untouched(4, WORDS + 1));
+    CHECK(used(0) && untouched(4, MORE_WORDS + 1));
     push_metric(WAKKEMOSUT_REGISTRY_NEIGHBOR, UINT64_C(4294967290), WORDS);
     CHECK(gave(WAKKEMOSUT_DONE, 5, 5, 5));
     CHECK(tape[4 + WAKKEMOSUT_WORD_END] == WAKKEMOSUT_HIGHEST_OCTET);
@@ -156,7 +187,7 @@ static void test_walk(void) {
     wakkemosut_walk(tail, sizeof tail, BASE, 6, tape, WORDS, numbers);
     CHECK(gave(WAKKEMOSUT_NO_REGISTRY, 0, 0, 0));
     wakkemosut_walk(tail, sizeof tail, BASE, WAKKEMOSUT_REGISTRY_NEIGHBOR, tape, WAKKEMOSUT_TAPE_WORDS(4), numbers);
-    CHECK(gave(WAKKEMOSUT_NO_ROOM, 0, 0, 5) && used(0) && untouched(4, WORDS + 1));
+    CHECK(gave(WAKKEMOSUT_NO_ROOM, 0, 0, 5) && used(0) && untouched(4, MORE_WORDS + 1));
     wakkemosut_walk(tail, sizeof tail, BASE, WAKKEMOSUT_REGISTRY_NEIGHBOR, tape, WORDS, numbers);
     CHECK(gave(WAKKEMOSUT_DONE, 5, 5, 5) && used(5));
     wakkemosut_clear(tape, WORDS, numbers);
@@ -178,23 +209,28 @@ static void test_cut_back(void) {
     CHECK(tape[WORDS - 3] == 10);
 }
 
+/* Whether a read of a position gives these six words and writes none after them. */
+static int reads(uint64_t at, const uint64_t wanted[6]) {
+    uint64_t record[7] = {1, 1, 1, 1, 1, 1, GUARD};
+    wakkemosut_read(tape, WORDS, at, record, numbers);
+    return memcmp(record, wanted, 6 * sizeof *wanted) == 0 && record[6] == GUARD;
+}
+
 static void test_read(void) {
-    const uint64_t zeros[7] = {0, 0, 0, 0, 0, 0, GUARD};
-    uint64_t record[7] = {1, 1, 1, 1, 1, 1, GUARD}, wanted[7] = {0, 0, 0, 0, 0, 0, GUARD};
+    const uint64_t zeros[6] = {0, 0, 0, 0, 0, 0};
+    uint64_t at;
     start();
     push_metric(WAKKEMOSUT_REGISTRY_NEIGHBOR, BASE, WORDS);
-    wakkemosut_read(tape, WORDS, 5, record, numbers);
-    CHECK(gave(WAKKEMOSUT_PAST_COUNT, 0, 0, 0) && memcmp(record, zeros, sizeof zeros) == 0);
-    wakkemosut_read(tape, WORDS, 4, record, numbers);
-    words_of(LISTING[4], wanted);
-    CHECK(gave(WAKKEMOSUT_DONE, 0, 0, 0) && memcmp(record, wanted, sizeof wanted) == 0);
-    CHECK(WAKKEMOSUT_REGISTRY_OF(record[WAKKEMOSUT_WORD_KIND]) == WAKKEMOSUT_REGISTRY_NEIGHBOR);
+    CHECK(reads(5, zeros) && gave(WAKKEMOSUT_PAST_COUNT, 0, 0, 0));
+    for (at = 0; at < ROOM; at++) {
+        uint64_t wanted[6];
+        words_of(LISTING[at], wanted);
+        CHECK(reads(at, wanted) && gave(WAKKEMOSUT_DONE, 0, 0, 0));
+    }
     tape[WAKKEMOSUT_TAPE_WORDS(4)] = 57;
-    wakkemosut_read(tape, WORDS, 4, record, numbers);
-    CHECK(gave(WAKKEMOSUT_NO_RECORD, 0, 0, 0) && memcmp(record, zeros, sizeof zeros) == 0);
+    CHECK(reads(4, zeros) && gave(WAKKEMOSUT_NO_RECORD, 0, 0, 0));
     tape[WAKKEMOSUT_TAPE_ZERO] = 1;
-    wakkemosut_read(tape, WORDS, 0, record, numbers);
-    CHECK(gave(WAKKEMOSUT_NO_TAPE, 0, 0, 0) && memcmp(record, zeros, sizeof zeros) == 0);
+    CHECK(reads(0, zeros) && gave(WAKKEMOSUT_NO_TAPE, 0, 0, 0));
 }
 
 static void test_nest_test(void) {
@@ -239,6 +275,7 @@ static void test_mask(void) {
 int main(void) {
     test_clear();
     test_push();
+    test_push_again();
     test_push_room();
     test_push_refusals();
     test_walk();

@@ -101,11 +101,11 @@ impl Tally {
         }
     }
 
-    /// Prints the counts, adds them to the summary, and asserts how many calls were compared.
+    /// Prints the counts, asserts how many calls were compared, and adds them to the summary.
     pub fn assert_calls(&self, least: u64) {
         println!("{} calls: {:?}", self.calls(), self.counts);
-        summary::add(seed(), self.calls(), self.calls_of(Call::Push));
         assert!(self.calls() >= least, "{} calls", self.calls());
+        summary::add(seed(), self.calls(), self.calls_of(Call::Push));
     }
 
     /// Asserts that a call gave each of these answers, and how often.

@@ -5,6 +5,7 @@ use std::sync::LazyLock;
 use oracle::LAST_REGISTRY;
 
 use crate::random::Random;
+use crate::shown::MOST_OCTETS;
 
 /// The registry of the areas in SRv6 tails.
 const SRV6_SID: u8 = 4;
@@ -72,6 +73,12 @@ pub fn rows() -> &'static [Row] {
     &ROWS
 }
 
+/// The rows whose values end with an SRv6 tail; the tail's SID ends with the least length.
+pub fn tail_rows() -> impl Iterator<Item = Row> {
+    let rows = rows().iter().copied();
+    rows.filter(|row| row.ending() == Ending::Tail)
+}
+
 /// The row of a type, if the oracle reads it.
 fn row(registry: u8, t: u8) -> Option<Row> {
     let least = usize::from(oracle::least_length(registry, t)?);
@@ -82,6 +89,30 @@ fn row(registry: u8, t: u8) -> Option<Row> {
 pub fn entry(t: u8, value: &[u8]) -> Vec<u8> {
     let length = value.len().min(MOST_IN_VALUE);
     [&[t, length as u8], &value[..length]].concat()
+}
+
+/// So many octets, these over and over.
+pub fn over_and_over(octets: &[u8], length: usize) -> Vec<u8> {
+    octets.iter().copied().cycle().take(length).collect()
+}
+
+/// An area of the greatest length, of these octets over and over.
+pub fn longest(octets: &[u8]) -> Vec<u8> {
+    over_and_over(octets, MOST_OCTETS)
+}
+
+/// An entry of the greatest length: the start of its value, then these octets over and over.
+pub fn long_entry(t: u8, start: &[u8], octets: &[u8]) -> Vec<u8> {
+    let rest = over_and_over(octets, MOST_IN_VALUE - start.len());
+    entry(t, &[start, &rest].concat())
+}
+
+/// An entry of the greatest length with an SRv6 tail, whose inner area has these octets over and
+/// over.
+pub fn long_tail(row: Row, inner: &[u8]) -> Vec<u8> {
+    let length = MOST_IN_VALUE - row.least - 1;
+    let start = [vec![0xA5; row.least], vec![length as u8]].concat();
+    long_entry(row.t, &start, inner)
 }
 
 /// Random octets, of any kind or all near a boundary or all alike.
@@ -251,6 +282,28 @@ mod tests {
     fn an_entry_has_at_most_255_octets_of_value() {
         assert_eq!(entry(7, &[8, 9]), [7, 2, 8, 9]);
         assert_eq!(entry(7, &[9; 300]), [vec![7, 255], vec![9; 255]].concat());
+    }
+
+    #[test]
+    fn long_entries_have_257_octets() {
+        let long = long_entry(7, &[1, 2], &[8, 9]);
+        assert_eq!(
+            (long.len(), &long[..7]),
+            (257, &[7, 255, 1, 2, 8, 9, 8][..])
+        );
+        assert_eq!(longest(&[7, 0]).len(), 65_535);
+    }
+
+    #[test]
+    fn an_area_inside_a_long_tail_reaches_its_end() {
+        assert_eq!(tail_rows().count(), 3);
+        for row in tail_rows() {
+            let push = oracle::push(row.registry, 0, &long_tail(row, &[7]));
+            let inner = push.records.iter().find(|one| one.registry == SRV6_SID);
+            let last = push.records.last().expect("a push shows a record");
+            assert!(inner.is_some());
+            assert_eq!(last.past_last, 257);
+        }
     }
 
     #[test]

@@ -51,11 +51,7 @@ mod tests {
 
     #[test]
     fn an_area_is_shown_with_its_registry_and_base() {
-        let area = Area {
-            registry: 2,
-            base: 100,
-            octets: &[19, 0],
-        };
+        let area = Area::new(2, 100, &[19, 0]);
         assert_eq!(area.to_string(), "registry 2, base 100, octets 2 [ 19 0 ]");
     }
 }

@@ -53,12 +53,9 @@ impl Comparison {
         let random = &mut self.random;
         let own = random.below(6);
         let octets = any_octets(random, own as u8);
-        let area = Area {
-            registry: any_registry(random, own),
-            base: any_base(random, octets.len() as u64),
-            octets: &octets,
-        };
-        let shown = Shown::of(area);
+        let registry = any_registry(random, own);
+        let base = any_base(random, octets.len() as u64);
+        let shown = Shown::of(Area::new(registry, base, &octets));
         if random.below(4) > 0 {
             let tape = any_tape(random, shown.needed_by_push());
             self.tally.push(&shown, &tape);
@@ -71,12 +68,7 @@ impl Comparison {
     /// What the oracle shows of an area, at a base that is not refused.
     fn shown<'a>(&mut self, registry: u8, octets: &'a [u8]) -> Shown<'a> {
         let base = sound_base(&mut self.random, octets.len() as u64);
-        let registry = registry.into();
-        Shown::of(Area {
-            registry,
-            base,
-            octets,
-        })
+        Shown::of(Area::new(registry.into(), base, octets))
     }
 }
 

@@ -12,5 +12,5 @@ pub mod model;
 pub mod native;
 pub mod random;
 pub mod shown;
-mod summary;
+pub mod summary;
 pub mod tapes;

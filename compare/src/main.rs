@@ -15,18 +15,24 @@ const STRIDE: u64 = 1_000_000;
 
 fn main() -> ExitCode {
     let words: Vec<String> = env::args().skip(1).collect();
-    let cases = match &words[..] {
-        [word] => word.replace(['_', ','], "").parse(),
-        _ => "".parse(),
-    };
-    match cases {
-        Ok(cases) => compare(cases),
-        Err(_) => {
+    match number(&words) {
+        Some(cases) => {
+            compare(cases);
+            ExitCode::SUCCESS
+        }
+        None => {
             eprintln!("{USAGE}");
-            return ExitCode::from(2);
+            ExitCode::from(2)
         }
     }
-    ExitCode::SUCCESS
+}
+
+/// The number that the words are, if they are one.
+fn number(words: &[String]) -> Option<u64> {
+    match words {
+        [word] => word.parse().ok(),
+        _ => None,
+    }
 }
 
 /// Compares so many cases; the first difference ends the program with a message.

@@ -66,6 +66,17 @@ pub struct Area<'a> {
     pub octets: &'a [u8],
 }
 
+impl<'a> Area<'a> {
+    /// These octets at this base, in this registry.
+    pub fn new(registry: u64, base: u64, octets: &'a [u8]) -> Self {
+        Self {
+            registry,
+            base,
+            octets,
+        }
+    }
+}
+
 /// The form of the library's walk and push calls.
 type OnArea = unsafe extern "C" fn(
     area: *const u8,

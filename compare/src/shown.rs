@@ -5,7 +5,7 @@ use crate::model::{After, HEADER, RECORD, bare, unchanged, used_records};
 use crate::native::{Area, Outcome, Record};
 
 /// The greatest number of octets of an area.
-pub const MOST_OCTETS: u64 = 65_535;
+pub const MOST_OCTETS: usize = 65_535;
 
 /// The greatest place past the last octet of an area.
 pub const LAST_PLACE: u64 = 4_294_967_295;
@@ -52,12 +52,12 @@ impl<'a> Shown<'a> {
 
     /// What a walk gives and leaves.
     pub fn walk(&self, tape: &[u64]) -> After {
-        self.append(tape, self.walked)
+        self.append(tape, self.needed_by_walk())
     }
 
     /// What a push gives and leaves.
     pub fn push(&self, tape: &[u64]) -> After {
-        self.append(tape, self.records.len())
+        self.append(tape, self.needed_by_push())
     }
 
     /// What the oracle shows of an area that is not refused.
@@ -65,6 +65,7 @@ impl<'a> Shown<'a> {
         let registry = u8::try_from(area.registry).expect("a registry is 0 to 5");
         let base = u32::try_from(area.base).expect("a base is below 2^32");
         let push = oracle::push(registry, base, area.octets);
+        assert!(push.records.len() <= bound(area.octets.len()), "{area}");
         let array = push.records.first();
         Self {
             area,
@@ -113,16 +114,24 @@ pub fn outcome(answer: u64, covered: u64, written: u64, needed: u64) -> Outcome 
 
 /// The answer by which an area is refused, whatever the tape.
 fn refusal(area: Area<'_>) -> Option<u64> {
-    let length = area.octets.len() as u64;
+    let length = area.octets.len();
     if area.registry > u64::from(oracle::LAST_REGISTRY) {
         return Some(1);
     }
     if length > MOST_OCTETS {
         return Some(2);
     }
-    match area.base.checked_add(length) {
+    match area.base.checked_add(length as u64) {
         Some(past) if past <= LAST_PLACE => None,
         _ => Some(3),
+    }
+}
+
+/// The most records that an area of so many octets needs.
+pub fn bound(octets: usize) -> usize {
+    match octets {
+        0 => 0,
+        _ => 1 + 7 * octets / 3,
     }
 }
 

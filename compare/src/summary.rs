@@ -1,19 +1,22 @@
 //! The counts of all tests of a run, gathered in a file.
 
+use std::env;
 use std::fs::OpenOptions;
-use std::io::Write;
+use std::io::{self, Write};
+use std::path::Path;
 
 /// The variable that names the file.
 const FILE_VARIABLE: &str = "WAKKEMOSUT_SUMMARY";
 
-/// Adds a line to the file, if one is named: the seed, the calls compared, the pushes among them.
+/// Adds the counts of a test to the file of this run, if one is named.
 pub fn add(seed: u64, calls: u64, pushes: u64) {
-    let Some(path) = std::env::var_os(FILE_VARIABLE) else {
-        return;
-    };
-    let file = OpenOptions::new().create(true).append(true).open(path);
-    let mut file = file.expect("the summary's file can be written");
-    let line = format!("{seed} {calls} {pushes}\n");
-    let written = file.write_all(line.as_bytes());
-    written.expect("the summary's file takes a line");
+    if let Some(file) = env::var_os(FILE_VARIABLE) {
+        add_to(Path::new(&file), seed, calls, pushes).expect("the summary can be written");
+    }
+}
+
+/// Adds a line to a file: the seed, the calls compared, the pushes among them.
+pub fn add_to(file: &Path, seed: u64, calls: u64, pushes: u64) -> io::Result<()> {
+    let mut file = OpenOptions::new().create(true).append(true).open(file)?;
+    file.write_all(format!("{seed} {calls} {pushes}\n").as_bytes())
 }

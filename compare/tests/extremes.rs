@@ -1,55 +1,18 @@
 //! Areas of the greatest length: the proved library against the oracle.
 
 use compare::agree::Call;
-use compare::areas::entry;
+use compare::areas::{entry, long_entry, long_tail, longest, tail_rows};
 use compare::cases::Comparison;
 use compare::native::Area;
-use compare::shown::Shown;
-
-/// The greatest length of an area.
-const MOST_OCTETS: usize = 65_535;
+use compare::shown::{MOST_OCTETS, Shown, bound};
 
 /// Octets of which an area may have nothing else.
 const LONE_OCTETS: [u8; 10] = [0x00, 0x01, 0x02, 0x04, 0x0B, 0x13, 0x17, 0x19, 0x80, 0xFF];
 
-/// These octets over and over.
-fn over_and_over(octets: &[u8], length: usize) -> Vec<u8> {
-    octets.iter().copied().cycle().take(length).collect()
-}
-
-/// An area of the greatest length, of these octets over and over.
-fn longest(octets: &[u8]) -> Vec<u8> {
-    over_and_over(octets, MOST_OCTETS)
-}
-
-/// An entry with an SRv6 tail, its inner area of these octets over and over, all 255 octets long.
-fn deep_entry(t: u8, head: usize, inner: &[u8]) -> Vec<u8> {
-    let length = 255 - head - 1;
-    let inside = over_and_over(inner, length);
-    entry(
-        t,
-        &[&vec![0xA5; head], &[length as u8][..], &inside].concat(),
-    )
-}
-
-/// Compares an area in every room; it must not need more than the bound.
+/// Compares an area of the greatest length in every room.
 fn compare_longest(comparison: &mut Comparison, registry: u8, octets: &[u8]) {
     assert_eq!(octets.len(), MOST_OCTETS);
-    let needed = needed(registry, octets);
-    assert!(needed <= 1 + 7 * MOST_OCTETS / 3, "{needed} records");
     comparison.every_room(registry, octets);
-}
-
-/// The number of records that a push of an area needs.
-fn needed(registry: u8, octets: &[u8]) -> usize {
-    let registry = registry.into();
-    let base = 0;
-    let shown = Shown::of(Area {
-        registry,
-        base,
-        octets,
-    });
-    shown.needed_by_push()
 }
 
 #[test]
@@ -65,7 +28,8 @@ fn entries_of_2_octets_are_those_of_the_rust() {
 fn entries_at_the_bound_are_those_of_the_rust() {
     let mut comparison = Comparison::of_this_run();
     let area = longest(&[4, 1, 0xA0]);
-    assert_eq!(needed(1, &area), 1 + 7 * MOST_OCTETS / 3);
+    let needed = Shown::of(Area::new(1, 0, &area)).needed_by_push();
+    assert_eq!(needed, bound(MOST_OCTETS));
     compare_longest(&mut comparison, 1, &area);
     comparison.tally.assert_calls(8);
 }
@@ -83,8 +47,8 @@ fn entries_of_257_octets_are_those_of_the_rust() {
         (2, 25),
         (5, 0),
     ] {
-        let value: Vec<u8> = (0..255).collect();
-        compare_longest(&mut comparison, registry, &longest(&entry(t, &value)));
+        let counting: Vec<u8> = (0..=254).collect();
+        compare_longest(&mut comparison, registry, &longest(&entry(t, &counting)));
     }
     comparison.tally.assert_calls(63);
 }
@@ -111,12 +75,12 @@ fn areas_inside_are_those_of_the_rust() {
         &[1, 4, 0xA8, 0x53, 0x1C, 0xE7],
         &[0xFF],
     ] {
-        for (registry, t, head) in [(0, 43, 21), (0, 44, 27), (1, 5, 19)] {
-            let area = longest(&deep_entry(t, head, inner));
-            compare_longest(&mut comparison, registry, &area);
+        for row in tail_rows() {
+            let area = longest(&long_tail(row, inner));
+            compare_longest(&mut comparison, row.registry, &area);
         }
-        let value = over_and_over(inner, 255);
-        compare_longest(&mut comparison, 2, &longest(&entry(25, &value)));
+        let area = longest(&long_entry(25, &[0x80, 0], inner));
+        compare_longest(&mut comparison, 2, &area);
     }
     comparison.tally.assert_calls(128);
 }

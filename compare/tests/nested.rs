@@ -1,11 +1,8 @@
 //! Areas and ranges inside values: the proved library against the oracle.
 
 use compare::agree::Call;
-use compare::areas::{entry, octets};
+use compare::areas::{entry, octets, tail_rows};
 use compare::cases::Comparison;
-
-/// The rows that end with an SRv6 tail: registry, type, the octets up to the end of the SID.
-const TAIL_ROWS: [(u8, u8, usize); 3] = [(0, 43, 21), (0, 44, 27), (1, 5, 19)];
 
 /// The most pieces in a row.
 const MOST_PIECES: usize = 3;
@@ -66,10 +63,10 @@ fn sequences(pieces: &[&[u8]], most: usize) -> Vec<Vec<u8>> {
 
 /// Compares an SRv6 tail whose length octet says this.
 fn compare_tail(comparison: &mut Comparison, inner: &[u8], length: usize) {
-    for (registry, t, head) in TAIL_ROWS {
-        let head = octets(&mut comparison.random, head);
+    for row in tail_rows() {
+        let head = octets(&mut comparison.random, row.least);
         let value = [&head[..], &[length as u8], inner].concat();
-        comparison.every_room(registry, &entry(t, &value));
+        comparison.every_room(row.registry, &entry(row.t, &value));
     }
 }
 

@@ -1,6 +1,7 @@
 //! Refusals of walk and push, 1 to 5: each exactly when document 01 says, and in its order.
 
 use compare::agree::{Call, Tally};
+use compare::areas::over_and_over;
 use compare::model::bare;
 use compare::native::{self, Area, Outcome};
 use compare::random::Random;
@@ -30,17 +31,17 @@ const REGISTRIES: [u64; 12] = [
 ];
 
 /// Lengths of areas, around both ends of what is taken.
-const LENGTHS: [u64; 7] = [
+const LENGTHS: [usize; 7] = [
     0,
     1,
     5,
     MOST_OCTETS - 1,
     MOST_OCTETS,
     MOST_OCTETS + 1,
-    2 * MOST_OCTETS + 2,
+    2 * MOST_OCTETS,
 ];
 
-/// Words of headers, and a wrong word for each place.
+/// Places of the header, and words that are wrong there.
 const WRONG_WORDS: [(usize, u64); 10] = [
     (0, 8),
     (0, 1 << 32),
@@ -56,7 +57,7 @@ const WRONG_WORDS: [(usize, u64); 10] = [
 
 /// Bases for an area of this length: small, around the limit, and where a sum may overflow.
 fn bases(length: u64) -> [u64; 11] {
-    let greatest = LAST_PLACE.saturating_sub(length);
+    let greatest = LAST_PLACE - length;
     [
         0,
         100,
@@ -90,6 +91,14 @@ fn some_tapes(random: &mut Random, shown: &Shown<'_>) -> Vec<Vec<u64>> {
     all
 }
 
+/// Compares both calls on all of these tapes.
+fn compare_tapes(tally: &mut Tally, random: &mut Random, shown: &Shown<'_>) {
+    for tape in some_tapes(random, shown) {
+        tally.walk(shown, &tape);
+        tally.push(shown, &tape);
+    }
+}
+
 /// Asserts what both calls give, and that the tape stays where they are refused.
 fn assert_both(area: Area<'_>, tape: &[u64], expected: Outcome) {
     for call in [native::walk, native::push] {
@@ -119,12 +128,9 @@ fn assert_first_of(holds: [bool; 5]) {
     let room = if room { NEEDED - 1 } else { NEEDED };
     let mut tape = [0, 4, if header { 7 } else { 6 }, 0].to_vec();
     tape.resize(4 + 6 * room, 9);
-    let area = Area {
-        registry: if registry { 6 } else { 0 },
-        base: if base { LAST_PLACE } else { 100 },
-        octets: &octets,
-    };
-    assert_both(area, &tape, first_of(holds));
+    let registry = if registry { 6 } else { 0 };
+    let base = if base { LAST_PLACE } else { 100 };
+    assert_both(Area::new(registry, base, &octets), &tape, first_of(holds));
 }
 
 #[test]
@@ -136,11 +142,7 @@ fn the_first_condition_that_holds_gives_the_answer() {
 
 #[test]
 fn the_answers_of_document_01_come_out() {
-    let area = |base, octets| Area {
-        registry: 0,
-        base,
-        octets,
-    };
+    let area = |base, octets| Area::new(0, base, octets);
     let tape = |room: usize| [vec![0, 4, 6, 0], vec![7; 6 * room]].concat();
     assert_both(area(100, &METRIC), &tape(4), outcome(5, 0, 0, 5));
     assert_both(area(100, &METRIC), &tape(5), outcome(0, 5, 5, 5));
@@ -153,20 +155,12 @@ fn the_answers_of_document_01_come_out() {
 fn every_choice_near_a_limit_is_answered_as_document_01_says() {
     let mut random = Random::of_this_run();
     let mut tally = Tally::default();
-    let octets = [0, 255, 0x12, 3].repeat(65_536);
-    for registry in REGISTRIES {
-        for length in LENGTHS {
-            for base in bases(length) {
-                let octets = &octets[..length as usize];
-                let shown = Shown::of(Area {
-                    registry,
-                    base,
-                    octets,
-                });
-                for tape in some_tapes(&mut random, &shown) {
-                    tally.walk(&shown, &tape);
-                    tally.push(&shown, &tape);
-                }
+    let octets = over_and_over(&[0, 255, 0x12, 3], 2 * MOST_OCTETS);
+    for length in LENGTHS {
+        for base in bases(length as u64) {
+            for registry in REGISTRIES {
+                let area = Area::new(registry, base, &octets[..length]);
+                compare_tapes(&mut tally, &mut random, &Shown::of(area));
             }
         }
     }
@@ -181,11 +175,7 @@ fn every_registry_from_6_on_is_refused() {
     let mut tally = Tally::default();
     let tape = tapes::full(&[]);
     for registry in (0..=1_000).chain((10..64).map(|bit| 1 << bit)) {
-        let shown = Shown::of(Area {
-            registry,
-            base: 0,
-            octets: &[],
-        });
+        let shown = Shown::of(Area::new(registry, 0, &[]));
         tally.walk(&shown, &tape);
         tally.push(&shown, &tape);
     }

@@ -52,11 +52,8 @@ impl Session {
     fn walk_or_push(&mut self, is_walk: bool) {
         let registry = self.random.below(6);
         let octets = areas::area(&mut self.random, registry as u8);
-        let shown = Shown::of(Area {
-            registry,
-            base: self.random.below(1 << 31),
-            octets: &octets,
-        });
+        let base = self.random.below(1 << 31);
+        let shown = Shown::of(Area::new(registry, base, &octets));
         if is_walk {
             self.tally.walk(&shown, &self.tape);
             self.tape = shown.walk(&self.tape).tape;

@@ -2,10 +2,10 @@
 
 use std::thread::Builder;
 
-use compare::areas::entry;
+use compare::areas::{long_entry, long_tail, longest, tail_rows};
 use compare::model::{self, After};
 use compare::native::{self, Area, Outcome, Record};
-use compare::shown::Shown;
+use compare::shown::{MOST_OCTETS, Shown, bound};
 use compare::tapes;
 
 /// The octets of the stack on which the library runs.
@@ -13,12 +13,6 @@ const STACK: usize = 64 * 1024;
 
 /// The number of records of a great tape.
 const GREAT: u64 = 100_000;
-
-/// The greatest length of an area.
-const MOST_OCTETS: usize = 65_535;
-
-/// The most records that an area of the greatest length needs.
-const MOST_NEEDED: usize = 1 + 7 * MOST_OCTETS / 3;
 
 /// What the calls give and leave.
 #[derive(Debug, PartialEq)]
@@ -84,48 +78,28 @@ fn assert_great(records: &[Record], nest: bool, answers: [u64; 2]) {
 }
 
 /// What a walk or a push gives and leaves, run on a small stack.
-fn append(
-    call: fn(Area<'_>, &mut [u64]) -> Outcome,
-    registry: u64,
-    octets: &[u8],
-    tape: &[u64],
-) -> After {
-    let (octets, mut tape) = (octets.to_vec(), tape.to_vec());
+fn append(call: fn(Area<'_>, &mut [u64]) -> Outcome, area: Area<'_>, tape: &[u64]) -> After {
+    let Area { registry, base, .. } = area;
+    let (octets, mut tape) = (area.octets.to_vec(), tape.to_vec());
     on_small_stack(move || {
-        let base = 100;
-        let area = Area {
-            registry,
-            base,
-            octets: &octets,
-        };
-        let outcome = call(area, &mut tape);
+        let outcome = call(Area::new(registry, base, &octets), &mut tape);
         After { outcome, tape }
     })
 }
 
 /// Asserts what both calls give and leave for an area of the greatest length, of these octets over
 /// and over, behind another record; it needs at least so many records.
-fn assert_great_area(registry: u64, octets: &[u8], least: usize) {
-    let octets: Vec<u8> = octets.iter().copied().cycle().take(MOST_OCTETS).collect();
-    let base = 100;
-    let shown = Shown::of(Area {
-        registry,
-        base,
-        octets: &octets,
-    });
-    assert!(shown.needed_by_walk() >= least);
+fn assert_great_area(registry: u8, octets: &[u8], least: usize) {
+    let octets = longest(octets);
+    let area = Area::new(registry.into(), 100, &octets);
+    let shown = Shown::of(area);
+    assert!(shown.needed_by_walk() >= least, "in registry {registry}");
     let mut tape = tapes::full(&tapes::leaves(1));
-    tape.resize(tape.len() + 6 * MOST_NEEDED, 9);
-    let walk = append(native::walk, registry, &octets, &tape);
+    tape.resize(tape.len() + 6 * bound(MOST_OCTETS), 9);
+    let walk = append(native::walk, area, &tape);
     assert!(walk == shown.walk(&tape), "walk in registry {registry}");
-    let push = append(native::push, registry, &octets, &tape);
+    let push = append(native::push, area, &tape);
     assert!(push == shown.push(&tape), "push in registry {registry}");
-}
-
-/// An entry of 257 octets whose value is this and then these octets over and over.
-fn long_entry(t: u8, head: &[u8], octets: &[u8]) -> Vec<u8> {
-    let value = head.iter().chain(octets.iter().cycle()).copied();
-    entry(t, &value.take(255).collect::<Vec<u8>>())
 }
 
 /// Arrays in each other, as many as asked for, the innermost empty.
@@ -169,14 +143,13 @@ fn many_entries_are_no_load_on_the_stack() {
 
 #[test]
 fn many_records_are_no_load_on_the_stack() {
-    assert_great_area(1, &[4, 1, 0xA0], MOST_NEEDED);
+    assert_great_area(1, &[4, 1, 0xA0], bound(MOST_OCTETS));
 }
 
 #[test]
 fn many_areas_inside_are_no_load_on_the_stack() {
-    for (registry, t, head) in [(0, 43, 21), (0, 44, 27), (1, 5, 19)] {
-        let head = [vec![0; head], vec![254 - head as u8]].concat();
-        assert_great_area(registry, &long_entry(t, &head, &[7, 0]), 100_000);
+    for row in tail_rows() {
+        assert_great_area(row.registry, &long_tail(row, &[7, 0]), 100_000);
     }
     assert_great_area(2, &long_entry(25, &[0, 0], &[7, 0]), 125_000);
 }

@@ -184,7 +184,10 @@ const FOREIGN_TYPES: [(u8, &[(u8, usize)]); 10] = [
 ];
 
 /// Entries in a row and a remainder: registry, entries of type and value length, octets after them.
-const SEQUENCES: [(u8, &[(u8, usize)], &[u8]); 15] = [
+type Sequence = (u8, &'static [(u8, usize)], &'static [u8]);
+
+/// Entries of known types, some with a remainder.
+const SEQUENCES: [Sequence; 15] = [
     (0, &[(18, 3), (6, 4)], &[]),
     (0, &[(31, 5), (18, 4), (9, 4)], &[]),
     (1, &[(4, 1), (3, 6), (1, 9)], &[]),

@@ -19,6 +19,7 @@ pub(crate) struct Numbers {
 }
 
 unsafe extern "C" {
+    /// The library's walk call.
     fn wakkemosut_walk(
         area: *const u8,
         area_length: usize,
@@ -28,6 +29,7 @@ unsafe extern "C" {
         words: usize,
         numbers: *mut Numbers,
     );
+    /// The library's push call.
     fn wakkemosut_push(
         area: *const u8,
         area_length: usize,
@@ -37,8 +39,11 @@ unsafe extern "C" {
         words: usize,
         numbers: *mut Numbers,
     );
+    /// The library's clear call.
     fn wakkemosut_clear(tape: *mut u64, words: usize, numbers: *mut Numbers);
+    /// The library's cut back call.
     fn wakkemosut_cut_back(tape: *mut u64, words: usize, mark: u64, numbers: *mut Numbers);
+    /// The library's read call.
     fn wakkemosut_read(
         tape: *const u64,
         words: usize,
@@ -46,7 +51,9 @@ unsafe extern "C" {
         record: *mut Words,
         numbers: *mut Numbers,
     );
+    /// The library's nest test: 1 for yes, 0 for no.
     fn wakkemosut_nest_test(tape: *const u64, words: usize) -> u8;
+    /// The library's name call.
     fn wakkemosut_name(
         registry: u64,
         t: u64,
@@ -54,6 +61,7 @@ unsafe extern "C" {
         out_length: usize,
         numbers: *mut Numbers,
     );
+    /// The library's mask call.
     fn wakkemosut_mask(prefix: *mut u8, prefix_length: usize, bits: usize);
 }
 

@@ -8,6 +8,9 @@ const BASE: u64 = 100;
 /// The most records of an example.
 const ROOM: usize = 16;
 
+/// Words of a tape after its room: one fewer than a record has.
+const SPARE: usize = 5;
+
 /// The octets of the third case.
 const METRIC: [u8; 5] = [0x12, 0x03, 0x00, 0x00, 0x0A];
 
@@ -24,11 +27,13 @@ fn octets(hex: &str) -> Vec<u8> {
         .collect()
 }
 
-/// Pushes a hex text onto an empty tape and hands the tape to a look at it. Asserts the octets
-/// covered, the count of records and that they nest.
+/// Pushes a hex text onto an empty tape with just the room for it, and hands the tape to a look at
+/// it. Asserts the octets covered, the count of records, that they nest, and the words beside.
 fn assert_push(registry: Registry, hex: &str, covered: u64, count: u64, look: impl Fn(&Tape<'_>)) {
     let mut words = words();
-    let mut tape = Tape::cleared(&mut words).unwrap();
+    let end = Tape::words_for(count as usize);
+    let (lent, beside) = words.split_at_mut(end + SPARE);
+    let mut tape = Tape::cleared(lent).unwrap();
     let laid = Laid {
         covered,
         written: count,
@@ -38,6 +43,8 @@ fn assert_push(registry: Registry, hex: &str, covered: u64, count: u64, look: im
     assert_eq!(tape.mark(), Position(count), "{hex}");
     assert!(tape.nests(), "{hex}");
     look(&tape);
+    let unused = tape.words()[end..].iter().chain(&*beside);
+    assert!(unused.copied().all(|word| word == u64::MAX), "{hex}");
 }
 
 /// The only record with a label.
@@ -85,7 +92,6 @@ fn a_metric_gives_the_listing() {
         assert!(records.eq(listing));
         assert_eq!(tape.words()[..4], [5, 4, 6, 0]);
         assert_eq!(tape.words()[4..34], *listing.as_flattened());
-        assert!(tape.words()[34..].iter().all(|word| *word == u64::MAX));
     });
 }
 
@@ -216,11 +222,11 @@ fn an_overrun_srv6_tail_keeps_its_length_octet() {
 
 #[test]
 fn prefixes_are_masked() {
-    let mut prefix = [0xFF, 0xFF];
-    mask_prefix(&mut prefix, 16);
-    assert_eq!(prefix, [0xFF, 0xFF]);
-    mask_prefix(&mut prefix, 13);
-    assert_eq!(prefix, [0xFF, 0xF8]);
+    let mut prefix = [0xFF; 3];
+    mask_prefix(&mut prefix[..2], 16);
+    assert_eq!(prefix, [0xFF; 3]);
+    mask_prefix(&mut prefix[..2], 13);
+    assert_eq!(prefix, [0xFF, 0xF8, 0xFF]);
 }
 
 #[test]

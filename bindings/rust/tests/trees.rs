@@ -130,7 +130,9 @@ fn what_is_cut_off_makes_room() {
     for _ in 0..3 {
         tape.push(Registry::Prefix, 0, &AREA).unwrap();
         assert_eq!(tape.mark(), Position(20));
+        let records = tape.words()[4..].to_vec();
         tape.cut_back(Position(0)).unwrap();
-        assert!(tape.nests());
+        assert_eq!((tape.mark(), tape.nests()), (Position(0), true));
+        assert_eq!(tape.words()[4..], records);
     }
 }

@@ -48,6 +48,14 @@ fn calls_are_counted() {
 }
 
 #[test]
+#[should_panic(expected = "1 calls")]
+fn too_few_calls_are_seen() {
+    let mut tally = Tally::default();
+    tally.clear(&[0, 4, 6, 0]);
+    tally.assert_calls(2);
+}
+
+#[test]
 #[should_panic(expected = "Read gave 8 0 times")]
 fn an_answer_that_was_not_met_is_seen() {
     let mut tally = Tally::default();

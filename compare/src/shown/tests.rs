@@ -19,11 +19,7 @@ fn listing(earlier: u64) -> Vec<Record> {
 
 /// An area of registry 0 at this base.
 fn area(base: u64, octets: &[u8]) -> Area<'_> {
-    Area {
-        registry: 0,
-        base,
-        octets,
-    }
+    Area::new(0, base, octets)
 }
 
 /// A tape of leaves with this many words of 9 after them.
@@ -109,20 +105,18 @@ fn a_wrong_header_is_answer_4() {
 fn an_area_is_refused_by_registry_then_length_then_base() {
     let (longest, longer) = (vec![0; 65_535], vec![0; 65_536]);
     for registry in [6, 256, u64::MAX] {
-        let octets = &longer;
-        assert_refused(
-            Area {
-                registry,
-                base: u64::MAX,
-                octets,
-            },
-            1,
-        );
+        assert_refused(Area::new(registry, u64::MAX, &longer), 1);
     }
     assert_refused(area(u64::MAX, &longer), 2);
     assert_refused(area(0, &longer), 2);
     assert_refused(area(LAST_PLACE - 65_534, &longest), 3);
     assert_eq!(refusal(area(LAST_PLACE - 65_535, &longest)), None);
+}
+
+#[test]
+fn the_bound_is_that_of_document_01() {
+    assert_eq!([1, 2, 3, 6].map(bound), [3, 5, 8, 15]);
+    assert_eq!(bound(0), 0);
 }
 
 #[test]

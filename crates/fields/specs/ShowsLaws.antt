@@ -12,7 +12,8 @@ use Rattle.tape.specs.Forest.{Forest, none, leaf}
 use Rattle.meaning.specs.Label.{Label, number}
 use Rattle.meaning.specs.Tree.{content}
 use Rattle.meaning.specs.Sid.{sidTrees, sidEnd}
-use Rattle.fields.specs.Shows.{sidWidth, sidNumber}
+use Rattle.fields.specs.Shows.{Shows, sidWidth, sidNumber}
+use Rattle.fields.specs.declared.Shown.{Shown}
 
 module _ (v : List ℕ) (at : ℕ) where
   -- 4 octets or more are left
@@ -51,3 +52,9 @@ module _ (v : List ℕ) (at : ℕ) where
       go : (b : Bool) → cond b (at + 4) (at + 3) ≡ at + cond b 4 3
       go true = refl
       go false = refl
+
+  -- so what is laid by its width and its number is the definition's SID
+  pub shown-sid : (label : Label) (registry base : ℕ) {t u : List ℕ} {position : ℕ} {r : Shown} → at + 3 ≤ length v
+      → Shows (at + sidWidth v at) (leaf (content (number label) 2 registry (base + at) (base + at + sidWidth v at) (sidNumber v at)) none) t u position r
+      → Shows (sidEnd v at) (sidTrees label registry v base at) t u position r
+  shown-sid label registry base there h = rw (sid-ends there, sid-shown label registry base there) h

@@ -11,7 +11,7 @@ use tape::lay;
 use tape::shape::Shape;
 ghost use mathlib.Core.Path.{_≡_};
 ghost use mathlib.Core.Bool.{true};
-ghost use Prim.Native.Nat.{_+_, _≤_, _<_, _^_};
+ghost use Prim.Native.Nat.{_+_, _*_, _≤_, _<_, _^_};
 ghost use lib.ListN.{length, drop};
 ghost use Rattle.octets.specs.BigEndian.{isWidth};
 ghost use Rattle.tape.specs.Tape.{putAt};
@@ -60,7 +60,7 @@ pub fn numbers(
     tape: &mut [u64],
     position: Position,
 ) -> Shown
-    requires { ⌜ (isWidth width ≡ true) × (source .base .0 + length (now octets) < 2 ^ 32) × (position .0 < 2 ^ 62) ⌝ }
+    requires { ⌜ (isWidth width ≡ true) × (source .base .0 + length (now octets) < 2 ^ 32) × (position .0 + 3 * length (now octets) + 3 < 2 ^ 63) ⌝ }
     ensures { λ r. ⌜ Shows (total (pieces (whole width) (now (octets .entry)))) (arrayBy array (source .registry) (numberTrees label shape width (source .registry)) (source .base .0) (pieces (whole width) (now (octets .entry)))) (now (tape .entry)) (now (tape .exit)) (position .0) r ⌝ }
 {
     let n = octets.len();
@@ -106,7 +106,7 @@ fn msd(octets: &[u8], source: Source, tape: &mut [u64], position: Position) -> P
 
 // Lays the array of MSDs.
 pub fn msds(octets: &[u8], source: Source, tape: &mut [u64], position: Position) -> Shown
-    requires { ⌜ (source .base .0 + length (now octets) < 2 ^ 32) × (position .0 < 2 ^ 62) ⌝ }
+    requires { ⌜ (source .base .0 + length (now octets) < 2 ^ 32) × (position .0 + 3 * length (now octets) + 3 < 2 ^ 63) ⌝ }
     ensures { λ r. ⌜ Shows (total (pieces (whole 2) (now (octets .entry)))) (arrayBy 42 (source .registry) (elementTrees msdElement (source .registry)) (source .base .0) (pieces (whole 2) (now (octets .entry)))) (now (tape .entry)) (now (tape .exit)) (position .0) r ⌝ }
 {
     let n = octets.len();
@@ -173,7 +173,7 @@ fn range(octets: &[u8], source: Source, tape: &mut [u64], position: Position) ->
 
 // Lays the array of ranges.
 pub fn ranges(octets: &[u8], source: Source, tape: &mut [u64], position: Position) -> Shown
-    requires { ⌜ (source .base .0 + length (now octets) < 2 ^ 32) × (position .0 < 2 ^ 62) ⌝ }
+    requires { ⌜ (source .base .0 + length (now octets) < 2 ^ 32) × (position .0 + 3 * length (now octets) + 3 < 2 ^ 63) ⌝ }
     ensures { λ r. ⌜ Shows (total (pieces rangeLength (now (octets .entry)))) (arrayBy 40 (source .registry) (elementTrees rangeElement (source .registry)) (source .base .0) (pieces rangeLength (now (octets .entry)))) (now (tape .entry)) (now (tape .exit)) (position .0) r ⌝ }
 {
     let registry = source.registry;

@@ -12,18 +12,6 @@ pub struct Source {
     pub base: Octet,
 }
 
-// How many octets of a value a decoder took, or that it took none.
-pub enum Taken {
-    Octets(usize),
-    Nothing,
-}
-
-// What a decoder gives: what it took, and the position after its records.
-pub struct Decoded {
-    pub taken: Taken,
-    pub next: Position,
-}
-
 // What an array, a SID or a walk gives: the octets up to its end, and the position after its records.
 pub struct Shown {
     pub covered: usize,

@@ -17,6 +17,12 @@ unfolding each total _⧺_
 each-++ f at [] qs = rw add-zero
 each-++ f at (p ∷ ps) qs = rw (each-++ f (at + length p) ps qs, ⧺-assoc, add-assoc)
 
+-- pieces that become the same
+pub each-same : (f g : List ℕ → ℕ → Forest) → ((p : List ℕ) (at : ℕ) → f p at ≡ g p at) → (ps : List (List ℕ)) (at : ℕ) → each f at ps ≡ each g at ps
+unfolding each
+each-same f g same [] at = refl
+each-same f g same (p ∷ ps) at = rw (same p at, each-same f g same ps (at + length p))
+
 -- total
 
 pub total-++ : (ps qs : List (List ℕ)) → total (ps ++ qs) ≡ total ps + total qs

@@ -7,7 +7,7 @@ use native.Mathlib.Nat.{add-assoc}
 use native.Mathlib.Omega.{arith}
 use lib.Dec.{leb, eqb}
 use lib.ListN.{length, getD, take, drop, length-drop}
-use lib.Seq.{length-take-le, getD-drop, drop-drop}
+use lib.Seq.{length-take-le, take-all, getD-drop, drop-drop}
 use borrow.Author.Tests.{le-leb, lt-leb, eq-eqb, ne-eqb}
 use Rattle.tape.specs.Forest.{Forest, none, _⧺_}
 use Rattle.meaning.specs.Cut.{Measure, pieces, total, each}
@@ -51,6 +51,10 @@ module _ (m : Measure) (fits : (xs : List ℕ) → m xs ≤ length xs) (f : List
     pub more-end : more m f base s i ≡ 0
     unfolding total
     more-end = rw (pieces-stop m fits (drop i s) stops)
+
+-- the octets from i on, as a part that ends with the last
+pub part-rest : (i : ℕ) (s : List ℕ) → take (length s - i) (drop i s) ≡ drop i s
+part-rest i s = take-all (length s - i) (drop i s) (omega (arith, length-drop i s))
 
 -- whole
 

@@ -33,3 +33,16 @@ unlisted registry t n (row registry′ t′ least fields ∷ rows) x = go (eqb r
 pub usual-unknown : (registry t : ℕ) (v : List ℕ) → NoneOf t (typesOf registry table) → usual registry t v ≡ []
 unfolding usual
 usual-unknown registry t v = unlisted registry t (length v) table
+
+-- the least value length that rows ask of a type, and its fields then
+unfoldable pub leastIn : List Row → ℕ → ℕ → ℕ
+leastIn [] registry t = 0
+leastIn (row registry′ t′ least fields ∷ rows) registry t = cond (eqb registry registry′ && eqb t t′) least (leastIn rows registry t)
+
+unfoldable pub fieldsIn : List Row → ℕ → ℕ → List Field
+fieldsIn [] registry t = []
+fieldsIn (row registry′ t′ least fields ∷ rows) registry t = cond (eqb registry registry′ && eqb t t′) fields (fieldsIn rows registry t)
+
+-- a type has one row: it says the least length and the fields
+abbrev pub OneRow : ℕ → ℕ → List ℕ → Type 0
+OneRow registry t v = usual registry t v ≡ cond (leb (leastIn table registry t) (length v)) (fieldsIn table registry t) []

@@ -7,7 +7,7 @@ use lib.ListN.{length, getD, drop}
 use Rattle.registry.specs.Registry.{numberOf}
 use Rattle.registry.specs.declared.Registry.the-variants.{Srv6Sid, Unregistered}
 use Rattle.tape.specs.Forest.{Forest}
-use Rattle.meaning.specs.Cut.{each}
+use Rattle.meaning.specs.CutLaws.{each-same}
 use Rattle.meaning.specs.Frame.{entries}
 use Rattle.meaning.specs.Field.{Field, part, flag, sid, array, tail, push, Plan}
 use Rattle.meaning.specs.Array.{arrayOf}
@@ -16,12 +16,6 @@ use Rattle.meaning.specs.Value.{Walk, pushBy, fieldTrees, fieldsTrees, v
 use Rattle.meaning.specs.Area.{entryTrees, walkTrees, noWalk, innerWalk, walked}
 use Rattle.meaning.specs.Theorems.Plan.{isInner, isPlain, Every, Flat}
 use Rattle.meaning.specs.Theorems.PlanLaws.{every, every-plain}
-
--- pieces that become the same
-each-same : (f g : List ℕ → ℕ → Forest) → ((p : List ℕ) (at : ℕ) → f p at ≡ g p at) → (ps : List (List ℕ)) (at : ℕ) → each f at ps ≡ each g at ps
-unfolding each
-each-same f g same [] at = refl
-each-same f g same (p ∷ ps) at = rw (same p at, each-same f g same ps (at + length p))
 
 -- two walks of areas inside values
 module _ (walk walk′ : Walk) (registry : ℕ) (v : List ℕ) (base : ℕ) where

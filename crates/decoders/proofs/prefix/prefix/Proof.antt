@@ -1,0 +1,106 @@
+-- Type by type, and all others.
+use mathlib.Core.Path.{refl, ap}
+use Rattle.tape.specs.Forest.{_⧺_}
+use Rattle.meaning.specs.Label
+use Rattle.meaning.specs.Shape.{u32, u64}
+use Rattle.meaning.specs.Field.{from}
+use Rattle.meaning.specs.Table.{table, fieldsOf, usual}
+use Rattle.meaning.specs.TableLaws.{leastIn, fieldsIn}
+use Rattle.meaning.specs.Value.{fieldEnd, fieldTrees, fieldsTrees, taken}
+use Rattle.decoders.specs.Reading.{Reading, given, readingOf}
+use Rattle.decoders.specs.ReadingLaws.{reads-as, of-type, of-unknown, row-given}
+use Rattle.decoders.specs.RowsLaws.{numbers-row}
+use borrow.Author.Needs.{needs}
+use Rattle.decoders.proofs.prefix.prefix.Statement.{statement}
+use Rattle.decoders.proofs.prefix.prefix.Tie as tie
+
+cast-t7 : tie.Need-cast-t7
+cast-t7 c = search needs
+
+number-array-requires : tie.Need-number-array-requires
+number-array-requires c κs = search needs
+
+number-array-requires-2 : tie.Need-number-array-requires-2
+number-array-requires-2 c κs = search needs
+
+octet-and-sid-requires : tie.Need-octet-and-sid-requires
+octet-and-sid-requires c κs = search needs
+
+prefix-attributes-requires : tie.Need-prefix-attributes-requires
+prefix-attributes-requires c κs = search needs
+
+one-address-requires : tie.Need-one-address-requires
+one-address-requires c κs = search needs
+
+one-address-requires-2 : tie.Need-one-address-requires-2
+one-address-requires-2 c κs = search needs
+
+same-length : tie.Need-same-length
+same-length c = search needs
+
+returns : tie.Need-returns
+unfolding usual fieldsOf table leastIn fieldsIn
+returns c = let g = c .before .before .before .before .before .before .before .args in let v = g .value .now in of-type 1 1 (g .kind) v (g .base .0) (c .before .before .before .before .match .keys1) (row-given 1 1 1 v (g .base .0) refl (reads-as (ap (λ (x : Reading). given 4 v x) (numbers-row Label.tags (from 0) refl 1 v (g .base .0) Label.tag u32 4 refl)) (c .before .before .number-array .ensures)))
+
+same-length-2 : tie.Need-same-length-2
+same-length-2 c = search needs
+
+returns-2 : tie.Need-returns-2
+unfolding usual fieldsOf table leastIn fieldsIn
+returns-2 c = let g = c .before .before .before .before .before .before .before .args in let v = g .value .now in of-type 1 2 (g .kind) v (g .base .0) (c .before .before .before .before .match .keys2) (row-given 1 2 1 v (g .base .0) refl (reads-as (ap (λ (x : Reading). given 8 v x) (numbers-row Label.tags (from 0) refl 1 v (g .base .0) Label.tag u64 8 refl)) (c .before .before .number-array2 .ensures)))
+
+same-length-3 : tie.Need-same-length-3
+same-length-3 c = search needs
+
+returns-3 : tie.Need-returns-3
+unfolding usual fieldsOf table leastIn fieldsIn readingOf fieldsTrees fieldTrees taken fieldEnd _⧺_
+returns-3 c = let g = c .before .before .before .before .before .before .before .args in let v = g .value .now in of-type 1 3 (g .kind) v (g .base .0) (c .before .before .before .before .match .keys3) (row-given 1 3 1 v (g .base .0) refl (c .before .before .octet-and-sid .ensures))
+
+same-length-4 : tie.Need-same-length-4
+same-length-4 c = search needs
+
+returns-4 : tie.Need-returns-4
+returns-4 c = let g = c .before .before .before .before .before .before .before .args in let v = g .value .now in of-type 1 4 (g .kind) v (g .base .0) (c .before .before .before .before .match .keys4) (c .before .before .prefix-attributes .ensures)
+
+same-length-5 : tie.Need-same-length-5
+same-length-5 c = search needs
+
+returns-5 : tie.Need-returns-5
+unfolding usual fieldsOf table leastIn fieldsIn readingOf fieldsTrees fieldTrees taken fieldEnd _⧺_
+returns-5 c = let g = c .before .before .before .before .before .before .before .args in let v = g .value .now in of-type 1 11 (g .kind) v (g .base .0) (c .before .before .before .before .match .keys5) (row-given 1 11 1 v (g .base .0) refl (c .before .before .one-address .ensures))
+
+same-length-6 : tie.Need-same-length-6
+same-length-6 c = search needs
+
+returns-6 : tie.Need-returns-6
+unfolding usual fieldsOf table leastIn fieldsIn readingOf fieldsTrees fieldTrees taken fieldEnd _⧺_
+returns-6 c = let g = c .before .before .before .before .before .before .before .args in let v = g .value .now in of-type 1 12 (g .kind) v (g .base .0) (c .before .before .before .before .match .keys6) (row-given 1 12 1 v (g .base .0) refl (c .before .before .one-address2 .ensures))
+
+returns-7 : tie.Need-returns-7
+unfolding table
+returns-7 c = let g = c .before .before .before .args in let v = g .value .now in let r = c .match .rest in of-unknown 1 (g .kind) v (g .base .0) (r .0 .0 .0 .0 .0 .1, (r .0 .0 .0 .0 .1, (r .0 .0 .0 .1, (r .0 .0 .1, (c .before .before .before .pre .0, (r .0 .1, (r .1, tt)))))))
+
+pub prefix-spec : {M : Type 1} → statement M
+prefix-spec =
+    tie.close
+    (tie.spec
+    cast-t7
+    number-array-requires
+    number-array-requires-2
+    octet-and-sid-requires
+    prefix-attributes-requires
+    one-address-requires
+    one-address-requires-2
+    same-length
+    returns
+    same-length-2
+    returns-2
+    same-length-3
+    returns-3
+    same-length-4
+    returns-4
+    same-length-5
+    returns-5
+    same-length-6
+    returns-6
+    returns-7)

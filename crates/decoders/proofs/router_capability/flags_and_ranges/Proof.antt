@@ -1,0 +1,64 @@
+-- The flags, and the array over the octets behind them.
+use mathlib.Core.Path.{refl, ap}
+use native.Mathlib.Omega.{arith}
+use Prim.Native.Nat.{ℕ, _+_}
+use lib.ListN.{length, drop, length-drop}
+use Rattle.tape.specs.Forest.{_⧺_}
+use Rattle.tape.specs.LaidLaws.{laid-then}
+use Rattle.meaning.specs.Table.{table, fieldsOf, usual}
+use Rattle.meaning.specs.TableLaws.{leastIn, fieldsIn}
+use Rattle.meaning.specs.Array.{arrayOf}
+use Rattle.meaning.specs.CutLaws.{total-le}
+use Rattle.meaning.specs.Frame.{rangeLength}
+use Rattle.meaning.specs.FrameLaws.{range-fits}
+use Rattle.meaning.specs.PlaceLaws.{part-rest}
+use Rattle.meaning.specs.Value.{fieldEnd, fieldTrees, fieldsTrees, taken}
+use Rattle.decoders.specs.Reading.{readingOf}
+use Rattle.decoders.specs.ReadingLaws.{row-short, row-long}
+use Rattle.decoders.specs.declared.Taken.the-variants.{Octets}
+use borrow.Author.Needs.{needs}
+use Rattle.decoders.proofs.router_capability.flags_and_ranges.Statement.{statement}
+use Rattle.decoders.proofs.router_capability.flags_and_ranges.Tie as tie
+
+returns : tie.Need-returns
+unfolding usual fieldsOf table leastIn fieldsIn
+returns c = let g = c .before .before .before .args in row-short 2 2 (g .source .registry) (g .value .now) (g .source .base .0) refl (c .if1 .taken)
+
+number-requires : tie.Need-number-requires
+number-requires c κs = search needs
+
+add-ranges : tie.Need-add-ranges
+add-ranges c = search needs
+
+part-ranges-start : tie.Need-part-ranges-start
+part-ranges-start c = search needs
+
+part-ranges-end : tie.Need-part-ranges-end
+part-ranges-end c = search needs
+
+ranges-requires : tie.Need-ranges-requires
+ranges-requires c κs = let v = c .before .before .before .before .before .before .before .before .before .before .args .value .now in rw (part-rest 1 v) (omega (arith, length-drop 1 v, c .before .before .before .before .before .number .ensures .place))
+
+add-t15 : tie.Need-add-t15
+add-t15 c = let v = c .before .before .before .before .before .before .before .before .before .before .before .before .before .before .args .value .now in omega (arith, (rw (part-rest 1 v) at (c .before .before .before .ranges .ensures)) .covers, total-le rangeLength range-fits (drop 1 v), length-drop 1 v)
+
+same-length : tie.Need-same-length
+same-length c = search needs
+
+returns-2 : tie.Need-returns-2
+unfolding usual fieldsOf table leastIn fieldsIn readingOf fieldsTrees fieldTrees taken fieldEnd _⧺_ arrayOf
+returns-2 c = let g = c .before .before .before .before .before .before .before .before .before .before .before .before .before .before .args in let x = rw (part-rest 1 (g .value .now)) at (c .before .before .before .ranges .ensures) in row-long 2 2 (g .source .registry) (g .value .now) (g .source .base .0) refl (c .before .before .before .before .before .before .before .before .before .before .before .if1 .left) (record { taken = ap (λ (n : ℕ). Octets (1 + n)) (x .covers); laid = laid-then (c .before .before .before .before .before .before .before .before .before .number .ensures) (x .laid) })
+
+pub flags-and-ranges-spec : {M : Type 1} → statement M
+flags-and-ranges-spec =
+    tie.close
+    (tie.spec
+    returns
+    number-requires
+    add-ranges
+    part-ranges-start
+    part-ranges-end
+    ranges-requires
+    add-t15
+    same-length
+    returns-2)

@@ -1,0 +1,118 @@
+-- Type by type, and all others.
+use mathlib.Core.Path.{refl, ap}
+use Rattle.tape.specs.Forest.{_⧺_}
+use Rattle.meaning.specs.Label
+use Rattle.meaning.specs.Shape.{u8}
+use Rattle.meaning.specs.Field.{from}
+use Rattle.meaning.specs.Table.{table, fieldsOf, usual}
+use Rattle.meaning.specs.TableLaws.{leastIn, fieldsIn}
+use Rattle.meaning.specs.Value.{fieldEnd, fieldTrees, fieldsTrees, taken}
+use Rattle.decoders.specs.Reading.{Reading, given, readingOf}
+use Rattle.decoders.specs.ReadingLaws.{reads-as, of-type, of-unknown, row-given}
+use Rattle.decoders.specs.RowsLaws.{numbers-row}
+use borrow.Author.Needs.{needs}
+use Rattle.decoders.proofs.router_capability.router_capability.Statement.{statement}
+use Rattle.decoders.proofs.router_capability.router_capability.Tie as tie
+
+cast-t7 : tie.Need-cast-t7
+cast-t7 c = search needs
+
+flags-and-ranges-requires : tie.Need-flags-and-ranges-requires
+flags-and-ranges-requires c κs = search needs
+
+one-address-requires : tie.Need-one-address-requires
+one-address-requires c κs = search needs
+
+one-address-requires-2 : tie.Need-one-address-requires-2
+one-address-requires-2 c κs = search needs
+
+number-array-requires : tie.Need-number-array-requires
+number-array-requires c κs = search needs
+
+flags-and-ranges-requires-2 : tie.Need-flags-and-ranges-requires-2
+flags-and-ranges-requires-2 c κs = search needs
+
+node-msd-requires : tie.Need-node-msd-requires
+node-msd-requires c κs = search needs
+
+one-number-requires : tie.Need-one-number-requires
+one-number-requires c κs = search needs
+
+same-length : tie.Need-same-length
+same-length c = search needs
+
+returns : tie.Need-returns
+returns c = let g = c .before .before .before .before .before .before .before .args in let v = g .value .now in of-type 2 2 (g .kind) v (g .base .0) (c .before .before .before .before .match .keys1) (c .before .before .flags-and-ranges .ensures)
+
+same-length-2 : tie.Need-same-length-2
+same-length-2 c = search needs
+
+returns-2 : tie.Need-returns-2
+unfolding usual fieldsOf table leastIn fieldsIn readingOf fieldsTrees fieldTrees taken fieldEnd _⧺_
+returns-2 c = let g = c .before .before .before .before .before .before .before .args in let v = g .value .now in of-type 2 11 (g .kind) v (g .base .0) (c .before .before .before .before .match .keys2) (row-given 2 11 2 v (g .base .0) refl (c .before .before .one-address .ensures))
+
+same-length-3 : tie.Need-same-length-3
+same-length-3 c = search needs
+
+returns-3 : tie.Need-returns-3
+unfolding usual fieldsOf table leastIn fieldsIn readingOf fieldsTrees fieldTrees taken fieldEnd _⧺_
+returns-3 c = let g = c .before .before .before .before .before .before .before .args in let v = g .value .now in of-type 2 12 (g .kind) v (g .base .0) (c .before .before .before .before .match .keys3) (row-given 2 12 2 v (g .base .0) refl (c .before .before .one-address2 .ensures))
+
+same-length-4 : tie.Need-same-length-4
+same-length-4 c = search needs
+
+returns-4 : tie.Need-returns-4
+unfolding usual fieldsOf table leastIn fieldsIn
+returns-4 c = let g = c .before .before .before .before .before .before .before .args in let v = g .value .now in of-type 2 19 (g .kind) v (g .base .0) (c .before .before .before .before .match .keys4) (row-given 2 19 2 v (g .base .0) refl (reads-as (ap (λ (x : Reading). given 0 v x) (numbers-row Label.algorithms (from 0) refl 2 v (g .base .0) Label.algorithmElement u8 1 refl)) (c .before .before .number-array .ensures)))
+
+same-length-5 : tie.Need-same-length-5
+same-length-5 c = search needs
+
+returns-5 : tie.Need-returns-5
+unfolding usual fieldsOf table leastIn fieldsIn
+returns-5 c = let g = c .before .before .before .before .before .before .before .args in let v = g .value .now in of-type 2 22 (g .kind) v (g .base .0) (c .before .before .before .before .match .keys5) (c .before .before .flags-and-ranges2 .ensures)
+
+same-length-6 : tie.Need-same-length-6
+same-length-6 c = search needs
+
+returns-6 : tie.Need-returns-6
+returns-6 c = let g = c .before .before .before .before .before .before .before .args in let v = g .value .now in of-type 2 23 (g .kind) v (g .base .0) (c .before .before .before .before .match .keys6) (c .before .before .node-msd .ensures)
+
+same-length-7 : tie.Need-same-length-7
+same-length-7 c = search needs
+
+returns-7 : tie.Need-returns-7
+unfolding usual fieldsOf table leastIn fieldsIn readingOf fieldsTrees fieldTrees taken fieldEnd _⧺_
+returns-7 c = let g = c .before .before .before .before .before .before .before .args in let v = g .value .now in of-type 2 24 (g .kind) v (g .base .0) (c .before .before .before .before .match .keys7) (row-given 2 24 2 v (g .base .0) refl (c .before .before .one-number .ensures))
+
+returns-8 : tie.Need-returns-8
+unfolding table
+returns-8 c = let g = c .before .before .before .args in let v = g .value .now in let r = c .match .rest in of-unknown 2 (g .kind) v (g .base .0) (r .0 .0 .0 .0 .0 .0 .1, (r .0 .0 .1, (r .0 .0 .0 .0 .0 .1, (r .0 .0 .0 .0 .1, (r .0 .0 .0 .1, (r .0 .1, (r .1, (c .before .before .before .pre .0, tt))))))))
+
+pub router-capability-spec : {M : Type 1} → statement M
+router-capability-spec =
+    tie.close
+    (tie.spec
+    cast-t7
+    flags-and-ranges-requires
+    one-address-requires
+    one-address-requires-2
+    number-array-requires
+    flags-and-ranges-requires-2
+    node-msd-requires
+    one-number-requires
+    same-length
+    returns
+    same-length-2
+    returns-2
+    same-length-3
+    returns-3
+    same-length-4
+    returns-4
+    same-length-5
+    returns-5
+    same-length-6
+    returns-6
+    same-length-7
+    returns-7
+    returns-8)

@@ -1,0 +1,353 @@
+// Registry 0: sub-TLVs of a neighbor (TLVs 22 and 222).
+use crate::Decoded;
+use crate::Taken;
+use crate::rows::flag_and_number;
+use crate::rows::octet_and_sid;
+use crate::rows::one_address;
+use crate::rows::one_number;
+use fields::Source;
+use fields::array::numbers;
+use fields::part::flag;
+use fields::part::number;
+use fields::part::part;
+use fields::sid::sid;
+use registry::registries::Neighbor;
+use tape::Octet;
+use tape::Position;
+use tape::label::Label;
+use tape::shape::Shape;
+ghost use mathlib.Core.Path.{_≡_};
+ghost use Prim.Native.Nat.{_+_, _≤_, _<_, _^_};
+ghost use lib.ListN.{length};
+ghost use Rattle.tape.specs.Laid.{Laid};
+ghost use Rattle.meaning.specs.Table.{usual};
+ghost use Rattle.decoders.specs.Reading.{Reads, readingOf, reading};
+ghost use Rattle.decoders.specs.Rows.{endXHead, lanEndXHead};
+
+// Link local and remote identifiers (RFC 5307, section 1.1).
+fn link_identifiers(value: &[u8], source: Source, tape: &mut [u64], position: Position) -> Decoded
+    requires { ⌜ (source .base .0 + length (now value) < 2 ^ 32) × (position .0 < 2 ^ 62) ⌝ }
+    ensures { λ r. ⌜ Reads (readingOf (source .registry) (now (value .entry)) (source .base .0) (usual 0 4 (now (value .entry)))) (now (tape .entry)) (now (tape .exit)) (position .0) r ⌝ }
+{
+    if value.len() < 8 {
+        return Decoded {
+            taken: Taken::Nothing,
+            next: position,
+        };
+    }
+    let second = number(
+        value,
+        source,
+        Label::LOCAL_IDENTIFIER,
+        Shape::U32,
+        0,
+        4,
+        tape,
+        position,
+    );
+    let next = number(
+        value,
+        source,
+        Label::REMOTE_IDENTIFIER,
+        Shape::U32,
+        4,
+        4,
+        tape,
+        second,
+    );
+    Decoded {
+        taken: Taken::Octets(8),
+        next,
+    }
+}
+
+// Unreserved bandwidth (RFC 5305, section 3.6): 8 numbers from the first 32 octets.
+fn unreserved_bandwidth(
+    value: &[u8],
+    source: Source,
+    tape: &mut [u64],
+    position: Position,
+) -> Decoded
+    requires { ⌜ (source .base .0 + length (now value) < 2 ^ 32) × (position .0 < 2 ^ 62) ⌝ }
+    ensures { λ r. ⌜ Reads (readingOf (source .registry) (now (value .entry)) (source .base .0) (usual 0 11 (now (value .entry)))) (now (tape .entry)) (now (tape .exit)) (position .0) r ⌝ }
+{
+    if value.len() < 32 {
+        return Decoded {
+            taken: Taken::Nothing,
+            next: position,
+        };
+    }
+    let shown = numbers(
+        &value[0..32],
+        source,
+        Label::UNRESERVED_BANDWIDTH,
+        Label::BANDWIDTH_ELEMENT,
+        Shape::U32,
+        4,
+        tape,
+        position,
+    );
+    let covered = shown.covered;
+    let next = shown.next;
+    Decoded {
+        taken: Taken::Octets(covered),
+        next,
+    }
+}
+
+// LAN-Adj-SID (RFC 8667, section 2.2.2): Flags | Weight | Neighbor System-ID | SID/Label/Index.
+fn lan_adj_sid(value: &[u8], source: Source, tape: &mut [u64], position: Position) -> Decoded
+    requires { ⌜ (source .base .0 + length (now value) < 2 ^ 32) × (position .0 < 2 ^ 62) ⌝ }
+    ensures { λ r. ⌜ Reads (readingOf (source .registry) (now (value .entry)) (source .base .0) (usual 0 32 (now (value .entry)))) (now (tape .entry)) (now (tape .exit)) (position .0) r ⌝ }
+{
+    if value.len() < 11 {
+        return Decoded {
+            taken: Taken::Nothing,
+            next: position,
+        };
+    }
+    let second = number(value, source, Label::FLAGS, Shape::U8, 0, 1, tape, position);
+    let third = number(value, source, Label::WEIGHT, Shape::U8, 1, 1, tape, second);
+    let fourth = part(
+        source,
+        Label::NEIGHBOR_SYSTEM_ID,
+        Shape::BYTES,
+        2,
+        6,
+        0,
+        tape,
+        third,
+    );
+    let shown = sid(value, source, Label::SID, 8, tape, fourth);
+    let covered = shown.covered;
+    let next = shown.next;
+    Decoded {
+        taken: Taken::Octets(covered),
+        next,
+    }
+}
+
+// Min/max link delay (RFC 8570, section 4.2): A | RESERVED | Min Delay | RESERVED | Max Delay.
+fn min_max_delay(value: &[u8], source: Source, tape: &mut [u64], position: Position) -> Decoded
+    requires { ⌜ (source .base .0 + length (now value) < 2 ^ 32) × (position .0 < 2 ^ 62) ⌝ }
+    ensures { λ r. ⌜ Reads (readingOf (source .registry) (now (value .entry)) (source .base .0) (usual 0 34 (now (value .entry)))) (now (tape .entry)) (now (tape .exit)) (position .0) r ⌝ }
+{
+    if value.len() < 8 {
+        return Decoded {
+            taken: Taken::Nothing,
+            next: position,
+        };
+    }
+    let second = flag(value, source, Label::ANOMALOUS, 0x80, tape, position);
+    let third = number(
+        value,
+        source,
+        Label::MIN_DELAY,
+        Shape::U32,
+        1,
+        3,
+        tape,
+        second,
+    );
+    let next = number(
+        value,
+        source,
+        Label::MAX_DELAY,
+        Shape::U32,
+        5,
+        3,
+        tape,
+        third,
+    );
+    Decoded {
+        taken: Taken::Octets(8),
+        next,
+    }
+}
+
+// What stands before the SID of an SRv6 End.X SID (RFC 9352, section 8.1): Flags | Algorithm | Weight | Endpoint Behavior.
+pub fn end_x_head(
+    value: &[u8],
+    source: Source,
+    at: usize,
+    tape: &mut [u64],
+    position: Position,
+) -> Position
+    requires { ⌜ (at + 5 ≤ length (now value)) × (source .base .0 + length (now value) < 2 ^ 32) × (position .0 < 2 ^ 62 + 1) ⌝ }
+    ensures { λ r. ⌜ Laid (endXHead (source .registry) (now (value .entry)) (source .base .0) at) (now (tape .entry)) (now (tape .exit)) (position .0) (r .0) ⌝ }
+{
+    let second = number(
+        value,
+        source,
+        Label::FLAGS,
+        Shape::U8,
+        at,
+        1,
+        tape,
+        position,
+    );
+    let third = number(
+        value,
+        source,
+        Label::ALGORITHM,
+        Shape::U8,
+        at + 1,
+        1,
+        tape,
+        second,
+    );
+    let fourth = number(
+        value,
+        source,
+        Label::WEIGHT,
+        Shape::U8,
+        at + 2,
+        1,
+        tape,
+        third,
+    );
+    number(
+        value,
+        source,
+        Label::ENDPOINT_BEHAVIOR,
+        Shape::U16,
+        at + 3,
+        2,
+        tape,
+        fourth,
+    )
+}
+
+// What stands before the SID of an SRv6 LAN End.X SID (RFC 9352, section 8.2): Neighbor System-ID, then as End.X.
+pub fn lan_end_x_head(
+    value: &[u8],
+    source: Source,
+    tape: &mut [u64],
+    position: Position,
+) -> Position
+    requires { ⌜ (11 ≤ length (now value)) × (source .base .0 + length (now value) < 2 ^ 32) × (position .0 < 2 ^ 62) ⌝ }
+    ensures { λ r. ⌜ Laid (lanEndXHead (source .registry) (now (value .entry)) (source .base .0)) (now (tape .entry)) (now (tape .exit)) (position .0) (r .0) ⌝ }
+{
+    let second = part(
+        source,
+        Label::NEIGHBOR_SYSTEM_ID,
+        Shape::BYTES,
+        0,
+        6,
+        0,
+        tape,
+        position,
+    );
+    end_x_head(value, source, 6, tape, second)
+}
+
+// A value by its type; the types 43 and 44 hold an area of their own.
+pub fn neighbor(value: &[u8], kind: u8, base: Octet, tape: &mut [u64], at: Position) -> Decoded
+    requires { ⌜ (kind ≡ 43 → ⊥) × (kind ≡ 44 → ⊥) × (base .0 + length (now value) < 2 ^ 32) × (at .0 < 2 ^ 62) ⌝ }
+    ensures { λ r. ⌜ Reads (reading 0 kind (now (value .entry)) (base .0)) (now (tape .entry)) (now (tape .exit)) (at .0) r ⌝ }
+{
+    let source = Source {
+        registry: Neighbor::NUMBER as u8,
+        base,
+    };
+    match kind {
+        3 => one_number(
+            value,
+            source,
+            Label::ADMIN_GROUP,
+            Shape::U32,
+            0,
+            4,
+            tape,
+            at,
+        ),
+        4 => link_identifiers(value, source, tape, at),
+        6 => one_address(
+            value,
+            source,
+            Label::IPV4_INTERFACE_ADDRESS,
+            Shape::IPV4,
+            4,
+            tape,
+            at,
+        ),
+        8 => one_address(
+            value,
+            source,
+            Label::IPV4_NEIGHBOR_ADDRESS,
+            Shape::IPV4,
+            4,
+            tape,
+            at,
+        ),
+        9 => one_number(
+            value,
+            source,
+            Label::MAX_BANDWIDTH,
+            Shape::U32,
+            0,
+            4,
+            tape,
+            at,
+        ),
+        10 => one_number(
+            value,
+            source,
+            Label::MAX_RESERVABLE_BANDWIDTH,
+            Shape::U32,
+            0,
+            4,
+            tape,
+            at,
+        ),
+        11 => unreserved_bandwidth(value, source, tape, at),
+        12 => one_address(
+            value,
+            source,
+            Label::IPV6_INTERFACE_ADDRESS,
+            Shape::IPV6,
+            16,
+            tape,
+            at,
+        ),
+        13 => one_address(
+            value,
+            source,
+            Label::IPV6_NEIGHBOR_ADDRESS,
+            Shape::IPV6,
+            16,
+            tape,
+            at,
+        ),
+        18 => one_number(
+            value,
+            source,
+            Label::TE_DEFAULT_METRIC,
+            Shape::U32,
+            0,
+            3,
+            tape,
+            at,
+        ),
+        31 => octet_and_sid(value, source, Label::WEIGHT, tape, at),
+        32 => lan_adj_sid(value, source, tape, at),
+        33 => flag_and_number(value, source, Label::DELAY, tape, at),
+        34 => min_max_delay(value, source, tape, at),
+        35 => one_number(
+            value,
+            source,
+            Label::DELAY_VARIATION,
+            Shape::U32,
+            1,
+            3,
+            tape,
+            at,
+        ),
+        36 => flag_and_number(value, source, Label::LINK_LOSS, tape, at),
+        37..=39 => one_number(value, source, Label::BANDWIDTH, Shape::U32, 0, 4, tape, at),
+        _ => Decoded {
+            taken: Taken::Nothing,
+            next: at,
+        },
+    }
+}

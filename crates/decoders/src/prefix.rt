@@ -1,0 +1,119 @@
+// Registry 1: sub-TLVs of a prefix (TLVs 27, 135, 235, 236 and 237).
+use crate::Decoded;
+use crate::Taken;
+use crate::rows::number_array;
+use crate::rows::octet_and_sid;
+use crate::rows::one_address;
+use fields::Source;
+use fields::part::flag;
+use fields::part::number;
+use registry::registries::Prefix;
+use tape::Octet;
+use tape::Position;
+use tape::label::Label;
+use tape::shape::Shape;
+ghost use mathlib.Core.Path.{_≡_};
+ghost use Prim.Native.Nat.{_+_, _≤_, _<_, _^_};
+ghost use lib.ListN.{length};
+ghost use Rattle.tape.specs.Laid.{Laid};
+ghost use Rattle.meaning.specs.Table.{usual};
+ghost use Rattle.decoders.specs.Reading.{Reads, readingOf, reading};
+ghost use Rattle.decoders.specs.Rows.{endHead};
+
+// Prefix attribute flags (RFC 7794, section 2.1): X | R | N | ...
+fn prefix_attributes(value: &[u8], source: Source, tape: &mut [u64], position: Position) -> Decoded
+    requires { ⌜ (source .base .0 + length (now value) < 2 ^ 32) × (position .0 < 2 ^ 62) ⌝ }
+    ensures { λ r. ⌜ Reads (readingOf (source .registry) (now (value .entry)) (source .base .0) (usual 1 4 (now (value .entry)))) (now (tape .entry)) (now (tape .exit)) (position .0) r ⌝ }
+{
+    if value.len() < 1 {
+        return Decoded {
+            taken: Taken::Nothing,
+            next: position,
+        };
+    }
+    let second = number(value, source, Label::FLAGS, Shape::U8, 0, 1, tape, position);
+    let third = flag(value, source, Label::FLAG_X, 0x80, tape, second);
+    let fourth = flag(value, source, Label::FLAG_R, 0x40, tape, third);
+    let next = flag(value, source, Label::FLAG_N, 0x20, tape, fourth);
+    Decoded {
+        taken: Taken::Octets(1),
+        next,
+    }
+}
+
+// What stands before the SID of an SRv6 End SID (RFC 9352, section 7.2): Flags | Endpoint Behavior.
+pub fn end_head(value: &[u8], source: Source, tape: &mut [u64], position: Position) -> Position
+    requires { ⌜ (3 ≤ length (now value)) × (source .base .0 + length (now value) < 2 ^ 32) × (position .0 < 2 ^ 62) ⌝ }
+    ensures { λ r. ⌜ Laid (endHead (source .registry) (now (value .entry)) (source .base .0)) (now (tape .entry)) (now (tape .exit)) (position .0) (r .0) ⌝ }
+{
+    let second = number(value, source, Label::FLAGS, Shape::U8, 0, 1, tape, position);
+    number(
+        value,
+        source,
+        Label::ENDPOINT_BEHAVIOR,
+        Shape::U16,
+        1,
+        2,
+        tape,
+        second,
+    )
+}
+
+// A value by its type; type 5 holds an area of its own.
+pub fn prefix(value: &[u8], kind: u8, base: Octet, tape: &mut [u64], at: Position) -> Decoded
+    requires { ⌜ (kind ≡ 5 → ⊥) × (base .0 + length (now value) < 2 ^ 32) × (at .0 < 2 ^ 62) ⌝ }
+    ensures { λ r. ⌜ Reads (reading 1 kind (now (value .entry)) (base .0)) (now (tape .entry)) (now (tape .exit)) (at .0) r ⌝ }
+{
+    let source = Source {
+        registry: Prefix::NUMBER as u8,
+        base,
+    };
+    match kind {
+        1 => number_array(
+            value,
+            source,
+            4,
+            Label::TAGS,
+            Label::TAG,
+            Shape::U32,
+            4,
+            tape,
+            at,
+        ),
+        2 => number_array(
+            value,
+            source,
+            8,
+            Label::TAGS,
+            Label::TAG,
+            Shape::U64,
+            8,
+            tape,
+            at,
+        ),
+        3 => octet_and_sid(value, source, Label::ALGORITHM, tape, at),
+        4 => prefix_attributes(value, source, tape, at),
+        11 => one_address(
+            value,
+            source,
+            Label::IPV4_SOURCE_ROUTER_ID,
+            Shape::IPV4,
+            4,
+            tape,
+            at,
+        ),
+        12 => one_address(
+            value,
+            source,
+            Label::IPV6_SOURCE_ROUTER_ID,
+            Shape::IPV6,
+            16,
+            tape,
+            at,
+        ),
+        _ => Decoded {
+            taken: Taken::Nothing,
+            next: at,
+        },
+    }
+}

@@ -1,0 +1,116 @@
+// Registry 2: sub-TLVs of a router capability (TLV 242).
+use crate::Decoded;
+use crate::Taken;
+use crate::rows::number_array;
+use crate::rows::one_address;
+use crate::rows::one_number;
+use fields::Source;
+use fields::array::msds;
+use fields::array::ranges;
+use fields::part::number;
+use registry::registries::RouterCapability;
+use tape::Octet;
+use tape::Position;
+use tape::label::Label;
+use tape::shape::Shape;
+ghost use mathlib.Core.Path.{_≡_};
+ghost use Prim.Native.Nat.{_+_, _<_, _^_};
+ghost use lib.ListN.{length};
+ghost use Rattle.meaning.specs.Table.{usual};
+ghost use Rattle.decoders.specs.Reading.{Reads, readingOf, reading};
+
+// SR-Capabilities and SR Local Block (RFC 8667, sections 3.1 and 3.3): Flags | ranges.
+fn flags_and_ranges(value: &[u8], source: Source, tape: &mut [u64], position: Position) -> Decoded
+    requires { ⌜ (source .base .0 + length (now value) < 2 ^ 32) × (position .0 < 2 ^ 62) ⌝ }
+    ensures { λ r. ⌜ Reads (readingOf (source .registry) (now (value .entry)) (source .base .0) (usual 2 2 (now (value .entry)))) (now (tape .entry)) (now (tape .exit)) (position .0) r ⌝ }
+{
+    let n = value.len();
+    if n < 1 {
+        return Decoded {
+            taken: Taken::Nothing,
+            next: position,
+        };
+    }
+    let second = number(value, source, Label::FLAGS, Shape::U8, 0, 1, tape, position);
+    let behind = Source {
+        registry: source.registry,
+        base: Octet(source.base.0 + 1),
+    };
+    let shown = ranges(&value[1..n], behind, tape, second);
+    let covered = shown.covered;
+    let next = shown.next;
+    Decoded {
+        taken: Taken::Octets(1 + covered),
+        next,
+    }
+}
+
+// Node MSD (RFC 8491, section 2): MSD-Type | MSD-Value, and so on.
+fn node_msd(value: &[u8], source: Source, tape: &mut [u64], position: Position) -> Decoded
+    requires { ⌜ (source .base .0 + length (now value) < 2 ^ 32) × (position .0 < 2 ^ 62) ⌝ }
+    ensures { λ r. ⌜ Reads (readingOf (source .registry) (now (value .entry)) (source .base .0) (usual 2 23 (now (value .entry)))) (now (tape .entry)) (now (tape .exit)) (position .0) r ⌝ }
+{
+    let shown = msds(value, source, tape, position);
+    let covered = shown.covered;
+    let next = shown.next;
+    Decoded {
+        taken: Taken::Octets(covered),
+        next,
+    }
+}
+
+// A value by its type; type 25 holds an area of its own.
+pub fn router_capability(
+    value: &[u8],
+    kind: u8,
+    base: Octet,
+    tape: &mut [u64],
+    at: Position,
+) -> Decoded
+    requires { ⌜ (kind ≡ 25 → ⊥) × (base .0 + length (now value) < 2 ^ 32) × (at .0 < 2 ^ 62) ⌝ }
+    ensures { λ r. ⌜ Reads (reading 2 kind (now (value .entry)) (base .0)) (now (tape .entry)) (now (tape .exit)) (at .0) r ⌝ }
+{
+    let source = Source {
+        registry: RouterCapability::NUMBER as u8,
+        base,
+    };
+    match kind {
+        2 => flags_and_ranges(value, source, tape, at),
+        11 => one_address(
+            value,
+            source,
+            Label::IPV4_TE_ROUTER_ID,
+            Shape::IPV4,
+            4,
+            tape,
+            at,
+        ),
+        12 => one_address(
+            value,
+            source,
+            Label::IPV6_TE_ROUTER_ID,
+            Shape::IPV6,
+            16,
+            tape,
+            at,
+        ),
+        19 => number_array(
+            value,
+            source,
+            0,
+            Label::ALGORITHMS,
+            Label::ALGORITHM_ELEMENT,
+            Shape::U8,
+            1,
+            tape,
+            at,
+        ),
+        22 => flags_and_ranges(value, source, tape, at),
+        23 => node_msd(value, source, tape, at),
+        24 => one_number(value, source, Label::PREFERENCE, Shape::U8, 0, 1, tape, at),
+        _ => Decoded {
+            taken: Taken::Nothing,
+            next: at,
+        },
+    }
+}

@@ -1,0 +1,155 @@
+// Readings that several types share.
+use crate::Decoded;
+use crate::Taken;
+use fields::Source;
+use fields::array::numbers;
+use fields::part::flag;
+use fields::part::number;
+use fields::part::part;
+use fields::sid::sid;
+use tape::Position;
+use tape::label::Label;
+use tape::shape::Shape;
+ghost use mathlib.Core.Path.{_≡_};
+ghost use mathlib.Core.Bool.{true};
+ghost use Prim.Native.Nat.{_+_, _≤_, _<_, _^_};
+ghost use lib.ListN.{length};
+ghost use Rattle.octets.specs.BigEndian.{isWidth};
+ghost use Rattle.decoders.specs.Reading.{Reads};
+ghost use Rattle.decoders.specs.Rows.{oneNumber, oneAddress, octetAndSid, flagAndNumber, numberArray};
+
+// One number of `width` octets, from `at` on.
+pub fn one_number(
+    value: &[u8],
+    source: Source,
+    label: u8,
+    shape: u8,
+    at: usize,
+    width: usize,
+    tape: &mut [u64],
+    position: Position,
+) -> Decoded
+    requires { ⌜ (isWidth width ≡ true) × (at + width ≤ 8) × (source .base .0 + length (now value) < 2 ^ 32) × (position .0 < 2 ^ 62) ⌝ }
+    ensures { λ r. ⌜ Reads (oneNumber label shape at width (source .registry) (now (value .entry)) (source .base .0)) (now (tape .entry)) (now (tape .exit)) (position .0) r ⌝ }
+{
+    if value.len() < at + width {
+        return Decoded {
+            taken: Taken::Nothing,
+            next: position,
+        };
+    }
+    let next = number(value, source, label, shape, at, width, tape, position);
+    Decoded {
+        taken: Taken::Octets(at + width),
+        next,
+    }
+}
+
+// An address in the first `width` octets.
+pub fn one_address(
+    value: &[u8],
+    source: Source,
+    label: u8,
+    shape: u8,
+    width: usize,
+    tape: &mut [u64],
+    position: Position,
+) -> Decoded
+    requires { ⌜ (source .base .0 + length (now value) < 2 ^ 32) × (position .0 < 2 ^ 62) ⌝ }
+    ensures { λ r. ⌜ Reads (oneAddress label shape width (source .registry) (now (value .entry)) (source .base .0)) (now (tape .entry)) (now (tape .exit)) (position .0) r ⌝ }
+{
+    if value.len() < width {
+        return Decoded {
+            taken: Taken::Nothing,
+            next: position,
+        };
+    }
+    let next = part(source, label, shape, 0, width, 0, tape, position);
+    Decoded {
+        taken: Taken::Octets(width),
+        next,
+    }
+}
+
+// Flags | an octet | SID.
+pub fn octet_and_sid(
+    value: &[u8],
+    source: Source,
+    label: u8,
+    tape: &mut [u64],
+    position: Position,
+) -> Decoded
+    requires { ⌜ (source .base .0 + length (now value) < 2 ^ 32) × (position .0 < 2 ^ 62) ⌝ }
+    ensures { λ r. ⌜ Reads (octetAndSid label (source .registry) (now (value .entry)) (source .base .0)) (now (tape .entry)) (now (tape .exit)) (position .0) r ⌝ }
+{
+    if value.len() < 5 {
+        return Decoded {
+            taken: Taken::Nothing,
+            next: position,
+        };
+    }
+    let second = number(value, source, Label::FLAGS, Shape::U8, 0, 1, tape, position);
+    let third = number(value, source, label, Shape::U8, 1, 1, tape, second);
+    let shown = sid(value, source, Label::SID, 2, tape, third);
+    let covered = shown.covered;
+    let next = shown.next;
+    Decoded {
+        taken: Taken::Octets(covered),
+        next,
+    }
+}
+
+// A | RESERVED | a number of 24 bits.
+pub fn flag_and_number(
+    value: &[u8],
+    source: Source,
+    label: u8,
+    tape: &mut [u64],
+    position: Position,
+) -> Decoded
+    requires { ⌜ (source .base .0 + length (now value) < 2 ^ 32) × (position .0 < 2 ^ 62) ⌝ }
+    ensures { λ r. ⌜ Reads (flagAndNumber label (source .registry) (now (value .entry)) (source .base .0)) (now (tape .entry)) (now (tape .exit)) (position .0) r ⌝ }
+{
+    if value.len() < 4 {
+        return Decoded {
+            taken: Taken::Nothing,
+            next: position,
+        };
+    }
+    let second = flag(value, source, Label::ANOMALOUS, 0x80, tape, position);
+    let next = number(value, source, label, Shape::U32, 1, 3, tape, second);
+    Decoded {
+        taken: Taken::Octets(4),
+        next,
+    }
+}
+
+// An array of numbers of one width, where the value has `least` octets.
+pub fn number_array(
+    value: &[u8],
+    source: Source,
+    least: usize,
+    array: u8,
+    label: u8,
+    shape: u8,
+    width: usize,
+    tape: &mut [u64],
+    position: Position,
+) -> Decoded
+    requires { ⌜ (isWidth width ≡ true) × (source .base .0 + length (now value) < 2 ^ 32) × (position .0 < 2 ^ 62) ⌝ }
+    ensures { λ r. ⌜ Reads (numberArray least array label shape width (source .registry) (now (value .entry)) (source .base .0)) (now (tape .entry)) (now (tape .exit)) (position .0) r ⌝ }
+{
+    if value.len() < least {
+        return Decoded {
+            taken: Taken::Nothing,
+            next: position,
+        };
+    }
+    let shown = numbers(value, source, array, label, shape, width, tape, position);
+    let covered = shown.covered;
+    let next = shown.next;
+    Decoded {
+        taken: Taken::Octets(covered),
+        next,
+    }
+}
