@@ -41,9 +41,13 @@ module _ (registry k r : ℕ) (v : List ℕ) (base : ℕ) (row : OneRow registry
   pub row-short : {t : List ℕ} {at : Position} → length v < leastIn table registry k → Reads (readingOf r v base (usual registry k v)) t t (at .0) (record { taken = Nothing; next = at })
   row-short short = row-given (rw (lt-leb (leastIn table registry k) (length v) short) reads-nothing)
 
+  -- the fields of one that is long enough
+  pub row-fields : leastIn table registry k ≤ length v → readingOf r v base (usual registry k v) ≡ readingOf r v base (fieldsIn table registry k)
+  row-fields long = row-is ∙ rw (le-leb (leastIn table registry k) (length v) long)
+
   -- it is long enough
   pub row-long : {t u : List ℕ} {at : ℕ} {d : Decoded} → leastIn table registry k ≤ length v → Reads (readingOf r v base (fieldsIn table registry k)) t u at d → Reads (readingOf r v base (usual registry k v)) t u at d
-  row-long long h = row-given (rw (le-leb (leastIn table registry k) (length v) long) h)
+  row-long long h = reads-as (row-fields long) h
 
 -- a value of type k
 pub of-type : (registry k kind : ℕ) (v : List ℕ) (base : ℕ) {t u : List ℕ} {at : ℕ} {d : Decoded} → kind ≡ k → Reads (readingOf registry v base (usual registry k v)) t u at d → Reads (reading registry kind v base) t u at d

@@ -1,0 +1,26 @@
+-- Octets are left, or none.
+use Prim.Native.Nat.{_+_}
+use Rattle.tape.specs.LaidLaws.{laid-none}
+use Rattle.walk.specs.RestLaws.{raw-none, raw-some}
+use native.Mathlib.Omega.{arith}
+use borrow.Author.Needs.{needs}
+use Rattle.walk.proofs.raw.Statement.{statement}
+use Rattle.walk.proofs.raw.Tie as tie
+
+returns : tie.Need-returns
+returns c = let g = c .before .before .before .args in rw (raw-none (g .source .registry) (g .source .base .0 + g .at) (g .octets .now) (g .at) (c .if1 .taken)) laid-none
+
+sub-part : tie.Need-sub-part
+sub-part c = search needs
+
+part-requires : tie.Need-part-requires
+part-requires c κs = search needs
+
+same-length : tie.Need-same-length
+same-length c = search needs
+
+returns-2 : tie.Need-returns-2
+returns-2 c = let g = c .before .before .before .before .before .before .before .args in rw (raw-some (g .source .registry) (g .source .base .0 + g .at) (g .octets .now) (g .at) (c .before .before .before .before .if1 .left)) (c .before .before .part .ensures)
+
+pub raw-spec : {M : Type 1} → statement M
+raw-spec = tie.close (tie.spec returns sub-part part-requires same-length returns-2)

@@ -1,0 +1,117 @@
+-- Values that hold an area of their own: what stands before it, and the area.
+use mathlib.Core.Path.{_≡_, refl, sym, ap, _∙_}
+use mathlib.Core.List.{List}
+use Prim.Native.Nat.{ℕ, _+_, _-_, _≤_}
+use native.Mathlib.Nat.{add-assoc, add-sub-cancel-left}
+use native.Mathlib.Omega.{arith}
+use lib.ListN.{length, getD, take, drop, length-drop}
+use lib.Seq.{length-take-le}
+use borrow.Author.Tests.{le-leb}
+use Rattle.registry.specs.Registry.{numberOf}
+use Rattle.registry.specs.declared.Registry.the-variants.{Srv6Sid, Unregistered}
+use Rattle.tape.specs.Forest.{Forest, none, leaf, size, _⧺_}
+use Rattle.tape.specs.ForestLaws.{size-⧺, ⧺-none}
+use Rattle.tape.specs.Laid.{Laid}
+use Rattle.tape.specs.LaidLaws.{laid-then}
+use Rattle.meaning.specs.Tree.{content}
+use Rattle.meaning.specs.Frame.{covered}
+use Rattle.meaning.specs.PlaceLaws.{part-rest}
+use Rattle.meaning.specs.Field.{Field, tail, push}
+use Rattle.meaning.specs.Tail.{inner}
+use Rattle.meaning.specs.Table.{usual, table}
+use Rattle.meaning.specs.TableLaws.{leastIn, fieldsIn, OneRow}
+use Rattle.meaning.specs.Value.{fieldEnd, fieldTrees}
+use Rattle.meaning.specs.ValueLaws.{tail-bare, tail-overrun, tail-inner, Alone, Inner}
+use Rattle.meaning.specs.Area.{walked, pushed}
+use Rattle.fields.specs.Shows.{Shows}
+use Rattle.fields.specs.declared.Shown.{Shown}
+use Rattle.decoders.specs.Reading.{Reading, took, readingOf, Reads}
+use Rattle.decoders.specs.ReadingLaws.{reads-as, row-fields}
+use Rattle.decoders.specs.declared.Decoded.{Decoded}
+use Rattle.decoders.specs.declared.Taken.the-variants.{Octets}
+use Rattle.walk.specs.Rest.{Room}
+
+-- the row of type k: a head, and then the field f
+module _ (k registry : ℕ) (v : List ℕ) (base : ℕ) (row : OneRow registry k v) (long : leastIn table registry k ≤ length v) (head : Forest) (f : Field)
+    (is : readingOf registry v base (fieldsIn table registry k) ≡ took (fieldEnd v f) (head ⧺ (fieldTrees (walked usual) registry v base f ⧺ none))) where
+  -- what the field shows
+  abbrev pub trees : Forest
+  trees = fieldTrees (walked usual) registry v base f
+
+  nested-is : readingOf registry v base (usual registry k v) ≡ took (fieldEnd v f) (head ⧺ trees)
+  nested-is = row-fields registry k registry v base row long ∙ is ∙ ap (λ (g : Forest). took (fieldEnd v f) (head ⧺ g)) (⧺-none trees)
+
+  -- the room that the field has
+  pub nested-room : {at next : ℕ} → Room (readingOf registry v base (usual registry k v) .found) (length v) base at → next ≡ at + size head → Room trees (length v) base next
+  nested-room room behind =
+      record { octet = room .octet; position = omega (arith, room .position, behind, ap (λ (x : Reading). size (x .found)) nested-is, size-⧺ head trees) }
+
+  -- the head, and then the field
+  pub nested-made : {t u w : List ℕ} {at next : ℕ} {d : Decoded} → Laid head t u at next → Reads (took (fieldEnd v f) trees) u w next d → Reads (readingOf registry v base (usual registry k v)) t w at d
+  nested-made laid reads = reads-as nested-is (record { taken = reads .taken; laid = laid-then laid (reads .laid) })
+
+-- the SRv6 tail of a value v from a place on
+module _ (registry : ℕ) (v : List ℕ) (base at : ℕ) {t u : List ℕ} {position next : ℕ}
+    (sid : Laid (leaf (content 29 5 registry (base + at) (base + at + 16) 0) none) t u position next) where
+  -- its SID
+  sid-laid : Laid (leaf (content 29 5 registry (base + at) (base + (at + 16)) 0) none) t u position next
+  sid-laid = rw (add-assoc base at 16) at sid
+
+  -- the SID alone
+  pub tail-alone : {d : Decoded} → Alone (walked usual) registry v base at → d .taken ≡ Octets (at + 16) → d .next .0 ≡ next
+      → Reads (took (fieldEnd v (tail at)) (fieldTrees (walked usual) registry v base (tail at))) t u position d
+  tail-alone alone taken after = record { taken = taken ∙ ap Octets (sym (alone .takes)); laid = rw (alone .shows, after) sid-laid }
+
+  -- the octets of the inner area, as the code passes them on
+  abbrev pub inside : List ℕ
+  inside = take (at + 16 + 1 + getD v (at + 16) 0 - (at + 16 + 1)) (drop (at + 16 + 1) v)
+
+  inside-is : inside ≡ inner v at
+  inside-is = rw (add-sub-cancel-left (at + 16 + 1) (getD v (at + 16) 0)) refl
+
+  module _ (fits : at + 16 + 1 + getD v (at + 16) 0 ≤ length v) where
+    inner-is : Inner (walked usual) registry v base at
+    inner-is = tail-inner (walked usual) registry v base at (omega arith)
+
+    pub inside-length : length inside ≡ getD v (at + 16) 0
+    inside-length = rw (add-sub-cancel-left (at + 16 + 1) (getD v (at + 16) 0)) (length-take-le (getD v (at + 16) 0) (drop (at + 16 + 1) v) (omega (arith, length-drop (at + 16 + 1) v)))
+
+    -- the room that the walk of the inner area has
+    pub inner-room : Room (fieldTrees (walked usual) registry v base (tail at)) (length v) base position
+        → Room (walked usual (numberOf Srv6Sid) inside (base + (at + 16 + 1))) (length inside) (base + (at + 16 + 1)) next
+    unfolding _⧺_
+    inner-room room =
+        record {
+          octet = omega (arith, room .octet, inside-length);
+          position = rw inside-is (omega (arith, room .position, sid .place, ap size (inner-is .shows)));
+        }
+
+    -- the SID, and the inner area behind it
+    pub inner-made : {w : List ℕ} {s : Shown} {d : Decoded} → Shows (covered inside) (walked usual (numberOf Srv6Sid) inside (base + (at + 16 + 1))) u w next s
+        → d .taken ≡ Octets (at + 16 + 1 + s .covered) → d .next .0 ≡ s .next .0
+        → Reads (took (fieldEnd v (tail at)) (fieldTrees (walked usual) registry v base (tail at))) t w position d
+    inner-made walk taken after =
+        let shown = rw inside-is at walk in
+        record {
+          taken = taken ∙ ap Octets (ap (λ (n : ℕ). at + 16 + 1 + n) (shown .covers) ∙ omega arith ∙ sym (inner-is .takes));
+          laid = rw (inner-is .shows, after) (laid-then sid-laid (shown .laid));
+        }
+
+-- the push of a value's octets from a place on
+module _ (registry : ℕ) (v : List ℕ) (base at : ℕ) where
+  -- those octets, as the code passes them on
+  abbrev pub behind : List ℕ
+  behind = take (length v - at) (drop at v)
+
+  -- the room that it has
+  pub behind-room : {next : ℕ} → at ≤ length v → Room (fieldTrees (walked usual) registry v base (push at)) (length v) base next
+      → Room (pushed usual (numberOf Unregistered) behind (base + at)) (length behind) (base + at) next
+  unfolding fieldTrees pushed
+  behind-room there room = rw (part-rest at v) (record { octet = omega (arith, room .octet, length-drop at v); position = room .position })
+
+  -- it takes the whole value
+  pub behind-made : {t u : List ℕ} {position : ℕ} {s : Shown} {d : Decoded} → Shows (covered behind) (pushed usual (numberOf Unregistered) behind (base + at)) t u position s
+      → d .taken ≡ Octets (length v) → d .next .0 ≡ s .next .0
+      → Reads (took (fieldEnd v (push at)) (fieldTrees (walked usual) registry v base (push at))) t u position d
+  unfolding fieldTrees fieldEnd pushed
+  behind-made shows taken after = record { taken = taken; laid = rw after ((rw (part-rest at v) at shows) .laid) }

@@ -1,0 +1,97 @@
+-- A walk and a push, out of their parts.
+use mathlib.Core.Path.{_≡_, refl, sym, ap, _∙_}
+use mathlib.Core.List.{List, [], _∷_}
+use Prim.Native.Nat.{ℕ, _+_, _≤_, _<_}
+use native.Mathlib.Nat.{add-zero}
+use native.Mathlib.Omega.{arith}
+use lib.ListN.{length, take, drop, length-drop}
+use lib.Seq.{length-take-le}
+use Rattle.tape.specs.Record.{containerRecord}
+use Rattle.tape.specs.Tape.{putAt}
+use Rattle.tape.specs.Forest.{Forest, none, size, _⧺_}
+use Rattle.tape.specs.ForestLaws.{size-⧺}
+use Rattle.tape.specs.Laid.{Laid}
+use Rattle.tape.specs.LaidLaws.{laid-none, laid-then}
+use Rattle.tape.specs.Laying.{laying-room}
+use Rattle.tape.specs.declared.Position.{Position}
+use Rattle.meaning.specs.Tree.{content, raw}
+use Rattle.meaning.specs.Cut.{pieces, total, each}
+use Rattle.meaning.specs.Frame.{entryLength, entries, covered, remainder}
+use Rattle.meaning.specs.FrameLaws.{entry-fits, covered-none}
+use Rattle.meaning.specs.PlaceLaws.{left, left-step}
+use Rattle.meaning.specs.Array.{arrayOf}
+use Rattle.meaning.specs.Table.{usual}
+use Rattle.meaning.specs.Value.{pushBy}
+use Rattle.meaning.specs.Area.{entryTrees, walkTrees, walked, pushed}
+use Rattle.meaning.specs.Theorems.TheCalls.{walk-again}
+use Rattle.fields.specs.Shows.{Shows, arrayBy}
+use Rattle.fields.specs.Cutting.{Cutting, cutting-end}
+use Rattle.fields.specs.declared.Shown.{Shown}
+use Rattle.walk.specs.Rest.{Room}
+
+-- an area in registry k, whose first octet stands at base
+module _ (k : ℕ) (area : List ℕ) (base : ℕ) where
+  -- what an entry becomes
+  abbrev pub each-entry : List ℕ → ℕ → Forest
+  each-entry = entryTrees usual (walked usual) k
+
+  -- where the area is empty, nothing is shown
+  pub walk-none : {t : List ℕ} {at : Position} → length area ≡ 0 → Shows (covered area) (walked usual k area base) t t (at .0) (record { covered = 0; next = at })
+  unfolding walkTrees
+  walk-none empty = go area empty
+    where
+      go : (a : List ℕ) → length a ≡ 0 → {t : List ℕ} {at : Position} → Shows (covered a) (walked usual k a base) t t (at .0) (record { covered = 0; next = at })
+      go [] empty = record { covers = sym covered-none; laid = rw (walk-again k [] base) laid-none }
+      go (x ∷ xs) empty = absurd (omega arith)
+
+  -- otherwise the array of its entries
+  walk-some : 0 < length area → walked usual k area base ≡ arrayBy 4 k each-entry base (pieces entryLength area)
+  unfolding walkTrees arrayOf entries
+  walk-some some = walk-again k area base ∙ go area some
+    where
+      go : (a : List ℕ) → 0 < length a → walkTrees usual (walked usual) k a base ≡ arrayBy 4 k (entryTrees usual (walked usual) k) base (pieces entryLength a)
+      go [] some = absurd (omega arith)
+      go (x ∷ xs) some = refl
+
+  -- entries up to octet i are laid behind position at
+  module _ {t u : List ℕ} {at i next : ℕ} (cutting : Cutting entryLength each-entry base area t u (at + 1) i next) where
+    -- the room that the next entry has, of w octets
+    pub next-room : (w : ℕ) → entryLength (drop i area) ≡ w → 0 < w → Room (walked usual k area base) (length area) base at
+        → Room (each-entry (take w (drop i area)) (base + i)) (length (take w (drop i area))) (base + i) next
+    next-room w is some room =
+        let fits : w ≤ length (drop i area) = rw is at (entry-fits (drop i area)) in
+        let step = left-step entryLength entry-fits each-entry base area i w is some in
+        record {
+          octet = omega (arith, room .octet, length-take-le w (drop i area) fits, fits, length-drop i area);
+          position = omega (
+            arith,
+            room .position,
+            laying-room (i + w) (each-entry (take w (drop i area)) (base + i)) (cutting .laying) step,
+            ap size (walk-some (omega (arith, fits, length-drop i area))),
+            ap (λ (n : ℕ). size (each each-entry n (pieces entryLength area))) (add-zero base),
+          );
+        }
+
+    -- after the last entry the array is put in front
+    pub walk-made : {v : List ℕ} {r : Shown} (registry : ℕ) → registry ≡ k → 0 < length area → entryLength (drop i area) ≡ 0 → r .next .0 ≡ next → r .covered ≡ i
+        → v ≡ putAt u at (containerRecord (content 4 7 registry base (base + i) 0) (at + 1) next)
+        → Shows (covered area) (walked usual k area base) t v at r
+    unfolding covered entries
+    walk-made registry same some stops after covers put =
+        rw (walk-some some) (cutting-end entry-fits 4 k (rw (sym after) at cutting) stops (rw (same, sym after) at put) covers)
+
+  -- push
+
+  -- the room that the walk has in a push
+  pub push-room : {at : ℕ} → Room (pushed usual k area base) (length area) base at → Room (walked usual k area base) (length area) base at
+  unfolding pushed pushBy
+  push-room room =
+      record { octet = room .octet; position = omega (arith, room .position, size-⧺ (walked usual k area base) (raw k (base + covered area) (remainder area))) }
+
+  -- the walk, and the remainder beside it
+  pub push-made : {t u w : List ℕ} {at next : ℕ} {s r : Shown} (registry : ℕ) → registry ≡ k → Shows (covered area) (walked usual k area base) t u at s
+      → Laid (raw registry (base + s .covered) (drop (s .covered) area)) u w (s .next .0) next → r .covered ≡ s .covered → r .next .0 ≡ next
+      → Shows (covered area) (pushed usual k area base) t w at r
+  unfolding pushed pushBy remainder
+  push-made registry same walk rest covers after =
+      record { covers = covers ∙ walk .covers; laid = rw after (laid-then (walk .laid) (rw (same, walk .covers) at rest)) }

@@ -1,0 +1,332 @@
+// The walk of an area: a walk decodes an entry, and an entry walks again. The remaining octets fall.
+use decoders::Decoded;
+use decoders::Taken;
+use decoders::binding::binding;
+use decoders::neighbor::end_x_head;
+use decoders::neighbor::lan_end_x_head;
+use decoders::neighbor::neighbor;
+use decoders::prefix::end_head;
+use decoders::prefix::prefix;
+use decoders::router_capability::router_capability;
+use decoders::srv6_sid::srv6_sid;
+use fields::Shown;
+use fields::Source;
+use fields::array::container;
+use fields::part::number;
+use fields::part::part;
+use registry::Registry;
+use registry::registries::Neighbor;
+use registry::registries::Prefix;
+use registry::registries::RouterCapability;
+use tape::Octet;
+use tape::Position;
+use tape::label::Label;
+use tape::shape::Shape;
+ghost use mathlib.Core.Path.{_≡_};
+ghost use Prim.Native.Nat.{_+_, _≤_, _<_, _^_};
+ghost use lib.ListN.{length, drop};
+ghost use Rattle.registry.specs.Registry.{numberOf};
+ghost use Rattle.tape.specs.Laid.{Laid};
+ghost use Rattle.meaning.specs.Tree.{raw as rawTrees};
+ghost use Rattle.meaning.specs.Frame.{covered};
+ghost use Rattle.meaning.specs.Field.{tail as tailField};
+ghost use Rattle.meaning.specs.Table.{usual};
+ghost use Rattle.meaning.specs.Value.{fieldEnd, fieldTrees};
+ghost use Rattle.meaning.specs.Area.{entryTrees, walked, pushed};
+ghost use Rattle.fields.specs.Shows.{Shows};
+ghost use Rattle.decoders.specs.Reading.{Reads, took, reading};
+ghost use Rattle.walk.specs.Rest.{restOf, Room};
+
+// Lays the octets from `at` on as one `raw` record, or nothing where there are none.
+fn raw(octets: &[u8], source: Source, at: usize, tape: &mut [u64], position: Position) -> Position
+    requires { ⌜ (source .base .0 + length (now octets) < 2 ^ 32) × (position .0 < 2 ^ 63) ⌝ }
+    ensures { λ r. ⌜ Laid (rawTrees (source .registry) (source .base .0 + at) (drop at (now (octets .entry)))) (now (tape .entry)) (now (tape .exit)) (position .0) (r .0) ⌝ }
+{
+    let n = octets.len();
+    if n <= at {
+        return position;
+    }
+    part(
+        source,
+        Label::RAW,
+        Shape::BYTES,
+        at,
+        n - at,
+        0,
+        tape,
+        position,
+    )
+}
+
+// Lays what follows a decoder's records: the octets that it did not take, or the whole value.
+fn rest(
+    value: &[u8],
+    source: Source,
+    taken: Taken,
+    tape: &mut [u64],
+    position: Position,
+) -> Position
+    requires { ⌜ (source .base .0 + length (now value) < 2 ^ 32) × (position .0 < 2 ^ 63) ⌝ }
+    ensures { λ r. ⌜ Laid (restOf (source .registry) (now (value .entry)) (source .base .0) taken) (now (tape .entry)) (now (tape .exit)) (position .0) (r .0) ⌝ }
+{
+    match taken {
+        Taken::Octets(k) => raw(value, source, k, tape, position),
+        Taken::Nothing => {
+            let n = value.len();
+            part(source, Label::VALUE, Shape::BYTES, 0, n, 0, tape, position)
+        }
+    }
+}
+
+// The SRv6 tail (RFC 9352, section 7.2): 16 octets of SID, a length octet, and an inner area, which is walked in registry 4.
+fn tail(value: &[u8], source: Source, at: usize, tape: &mut [u64], position: Position) -> Decoded
+    requires { ⌜ (at + 16 ≤ length (now value)) × Room (fieldTrees (walked usual) (source .registry) (now value) (source .base .0) (tailField at)) (length (now value)) (source .base .0) (position .0) ⌝ }
+    ensures { λ r. ⌜ Reads (took (fieldEnd (now (value .entry)) (tailField at)) (fieldTrees (walked usual) (source .registry) (now (value .entry)) (source .base .0) (tailField at))) (now (tape .entry)) (now (tape .exit)) (position .0) r ⌝ }
+{
+    let n = value.len();
+    let base = source.base.0;
+    let length_at = at + 16;
+    let after = part(
+        source,
+        Label::SRV6_SID,
+        Shape::IPV6,
+        at,
+        16,
+        0,
+        tape,
+        position,
+    );
+    if n <= length_at {
+        return Decoded {
+            taken: Taken::Octets(length_at),
+            next: after,
+        };
+    }
+    let start = length_at + 1;
+    let stop = start + value[length_at] as usize;
+    if n < stop {
+        return Decoded {
+            taken: Taken::Octets(length_at),
+            next: after,
+        };
+    }
+    let shown = walk(
+        &value[start..stop],
+        Octet(base + start),
+        Registry::Srv6Sid,
+        tape,
+        after,
+    );
+    let covered = shown.covered;
+    let next = shown.next;
+    Decoded {
+        taken: Taken::Octets(start + covered),
+        next,
+    }
+}
+
+// A value of registry 0, by its type.
+fn decode_neighbor(value: &[u8], kind: u8, base: Octet, tape: &mut [u64], at: Position) -> Decoded
+    requires { ⌜ Room (reading 0 kind (now value) (base .0) .found) (length (now value)) (base .0) (at .0) ⌝ }
+    ensures { λ r. ⌜ Reads (reading 0 kind (now (value .entry)) (base .0)) (now (tape .entry)) (now (tape .exit)) (at .0) r ⌝ }
+{
+    let n = value.len();
+    let source = Source {
+        registry: Neighbor::NUMBER as u8,
+        base,
+    };
+    match kind {
+        43 => {
+            if n < 21 {
+                return Decoded {
+                    taken: Taken::Nothing,
+                    next: at,
+                };
+            }
+            let next = end_x_head(value, source, 0, tape, at);
+            tail(value, source, 5, tape, next)
+        }
+        44 => {
+            if n < 27 {
+                return Decoded {
+                    taken: Taken::Nothing,
+                    next: at,
+                };
+            }
+            let next = lan_end_x_head(value, source, tape, at);
+            tail(value, source, 11, tape, next)
+        }
+        _ => neighbor(value, kind, base, tape, at),
+    }
+}
+
+// A value of registry 1, by its type.
+fn decode_prefix(value: &[u8], kind: u8, base: Octet, tape: &mut [u64], at: Position) -> Decoded
+    requires { ⌜ Room (reading 1 kind (now value) (base .0) .found) (length (now value)) (base .0) (at .0) ⌝ }
+    ensures { λ r. ⌜ Reads (reading 1 kind (now (value .entry)) (base .0)) (now (tape .entry)) (now (tape .exit)) (at .0) r ⌝ }
+{
+    let n = value.len();
+    let source = Source {
+        registry: Prefix::NUMBER as u8,
+        base,
+    };
+    match kind {
+        5 => {
+            if n < 19 {
+                return Decoded {
+                    taken: Taken::Nothing,
+                    next: at,
+                };
+            }
+            let next = end_head(value, source, tape, at);
+            tail(value, source, 3, tape, next)
+        }
+        _ => prefix(value, kind, base, tape, at),
+    }
+}
+
+// A value of registry 2, by its type.
+fn decode_router_capability(
+    value: &[u8],
+    kind: u8,
+    base: Octet,
+    tape: &mut [u64],
+    at: Position,
+) -> Decoded
+    requires { ⌜ Room (reading 2 kind (now value) (base .0) .found) (length (now value)) (base .0) (at .0) ⌝ }
+    ensures { λ r. ⌜ Reads (reading 2 kind (now (value .entry)) (base .0)) (now (tape .entry)) (now (tape .exit)) (at .0) r ⌝ }
+{
+    let n = value.len();
+    let source = Source {
+        registry: RouterCapability::NUMBER as u8,
+        base,
+    };
+    match kind {
+        25 => {
+            if n < 2 {
+                return Decoded {
+                    taken: Taken::Nothing,
+                    next: at,
+                };
+            }
+            let after = number(value, source, Label::SRV6_FLAGS, Shape::U16, 0, 2, tape, at);
+            let shown = push(
+                &value[2..n],
+                Octet(base.0 + 2),
+                Registry::Unregistered,
+                tape,
+                after,
+            );
+            let next = shown.next;
+            Decoded {
+                taken: Taken::Octets(n),
+                next,
+            }
+        }
+        _ => router_capability(value, kind, base, tape, at),
+    }
+}
+
+// A value, by its registry.
+fn decode(
+    value: &[u8],
+    kind: u8,
+    base: Octet,
+    registry: Registry,
+    tape: &mut [u64],
+    at: Position,
+) -> Decoded
+    requires { ⌜ Room (reading (numberOf registry) kind (now value) (base .0) .found) (length (now value)) (base .0) (at .0) ⌝ }
+    ensures { λ r. ⌜ Reads (reading (numberOf registry) kind (now (value .entry)) (base .0)) (now (tape .entry)) (now (tape .exit)) (at .0) r ⌝ }
+{
+    match registry {
+        Registry::Neighbor => decode_neighbor(value, kind, base, tape, at),
+        Registry::Prefix => decode_prefix(value, kind, base, tape, at),
+        Registry::RouterCapability => decode_router_capability(value, kind, base, tape, at),
+        Registry::Binding => binding(value, kind, base, tape, at),
+        Registry::Srv6Sid => srv6_sid(value, kind, base, tape, at),
+        Registry::Unregistered => Decoded {
+            taken: Taken::Nothing,
+            next: at,
+        },
+    }
+}
+
+// Lays a complete entry: its type, its length and its value, and then the `sub_tlv` object in front of them.
+fn entry(octets: &[u8], base: Octet, registry: Registry, tape: &mut [u64], at: Position) -> Position
+    requires { ⌜ (2 ≤ length (now octets)) × Room (entryTrees usual (walked usual) (numberOf registry) (now octets) (base .0)) (length (now octets)) (base .0) (at .0) ⌝ }
+    ensures { λ r. ⌜ Laid (entryTrees usual (walked usual) (numberOf registry) (now (octets .entry)) (base .0)) (now (tape .entry)) (now (tape .exit)) (at .0) (r .0) ⌝ }
+{
+    let n = octets.len();
+    let k = registry.number() as u8;
+    let source = Source { registry: k, base };
+    let inside = Octet(base.0 + 2);
+    let second = number(
+        octets,
+        source,
+        Label::TYPE,
+        Shape::U8,
+        0,
+        1,
+        tape,
+        Position(at.0 + 1),
+    );
+    let third = number(octets, source, Label::LENGTH, Shape::U8, 1, 1, tape, second);
+    let value = &octets[2..n];
+    let decoded = decode(value, octets[0], inside, registry, tape, third);
+    let taken = decoded.taken;
+    let after = decoded.next;
+    let behind = Source {
+        registry: k,
+        base: inside,
+    };
+    let next = rest(value, behind, taken, tape, after);
+    container(source, Label::SUB_TLV, Shape::OBJECT, n, tape, at, next);
+    next
+}
+
+// Lays the complete entries of an area, and then the `sub_tlvs` array in front of them; nothing where the area is empty.
+pub fn walk(area: &[u8], base: Octet, registry: Registry, tape: &mut [u64], at: Position) -> Shown
+    requires { ⌜ Room (walked usual (numberOf registry) (now area) (base .0)) (length (now area)) (base .0) (at .0) ⌝ }
+    ensures { λ r. ⌜ Shows (covered (now (area .entry))) (walked usual (numberOf registry) (now (area .entry)) (base .0)) (now (tape .entry)) (now (tape .exit)) (at .0) r ⌝ }
+{
+    let n = area.len();
+    if n == 0 {
+        return Shown {
+            covered: 0,
+            next: at,
+        };
+    }
+    let mut pos = 0;
+    let mut next = Position(at.0 + 1);
+    while pos + 2 <= n {
+        let stop = pos + 2 + area[pos + 1] as usize;
+        if n < stop {
+            break;
+        }
+        next = entry(&area[pos..stop], Octet(base.0 + pos), registry, tape, next);
+        pos = stop;
+    }
+    let source = Source {
+        registry: registry.number() as u8,
+        base,
+    };
+    container(source, Label::SUB_TLVS, Shape::ARRAY, pos, tape, at, next);
+    Shown { covered: pos, next }
+}
+
+// Lays the walk of an area, and one `raw` record beside it for the octets that it does not cover, if there are any.
+pub fn push(area: &[u8], base: Octet, registry: Registry, tape: &mut [u64], at: Position) -> Shown
+    requires { ⌜ Room (pushed usual (numberOf registry) (now area) (base .0)) (length (now area)) (base .0) (at .0) ⌝ }
+    ensures { λ r. ⌜ Shows (covered (now (area .entry))) (pushed usual (numberOf registry) (now (area .entry)) (base .0)) (now (tape .entry)) (now (tape .exit)) (at .0) r ⌝ }
+{
+    let shown = walk(area, base, registry, tape, at);
+    let covered = shown.covered;
+    let after = shown.next;
+    let source = Source {
+        registry: registry.number() as u8,
+        base,
+    };
+    let next = raw(area, source, covered, tape, after);
+    Shown { covered, next }
+}
