@@ -62,6 +62,19 @@ pub length-appended : (t : List ℕ) (trees : Forest) → length (appended trees
 unfolding appended
 length-appended t trees = length-set (store t (used t) (flat (used t) trees)) 0 (used t + size trees) ∙ length-store (flat (used t) trees) t (used t)
 
+-- fitted, case by case
+
+module _ (octets : ℕ) (trees : Forest) (t : List ℕ) where
+  -- 5: needed records exceed free room
+  pub fitted-5 : room t - used t < size trees → fitted octets trees t ≡ record { outcome = noRoom (size trees); lent = t }
+  unfolding fitted
+  fitted-5 less = rw (lt-leb (size trees) (room t - used t) less)
+
+  -- 0: done
+  pub fitted-0 : size trees ≤ room t - used t → fitted octets trees t ≡ shown octets trees t
+  unfolding fitted
+  fitted-0 fits = rw (le-leb (size trees) (room t - used t) fits)
+
 -- callIn, case by case
 
 -- a registry's number is small
@@ -101,30 +114,20 @@ module _ (shows : Walk) (registry : Registry) (area : List ℕ) (base : ℕ) (t 
       call-4 bad = known ∙ rw (le-leb (length area) longest short, le-leb (base + length area) furthest near, bad)
 
       module _ (good : headed t ≡ true) where
-        accepted : areaCall shows (numberOf registry) area base t ≡ fitted (covered area) (shows (numberOf registry) area base) t
+        -- the free room decides
+        pub accepted : areaCall shows (numberOf registry) area base t ≡ fitted (covered area) (shows (numberOf registry) area base) t
         unfolding callIn
         accepted = known ∙ rw (le-leb (length area) longest short, le-leb (base + length area) furthest near, good)
-
-        -- the free room decides
-        judged : (room t - used t < size (shows (numberOf registry) area base)
-            → areaCall shows (numberOf registry) area base t ≡ record { outcome = noRoom (size (shows (numberOf registry) area base)); lent = t })
-            × (size (shows (numberOf registry) area base) ≤ room t - used t
-            → areaCall shows (numberOf registry) area base t ≡ shown (covered area) (shows (numberOf registry) area base) t)
-        unfolding fitted
-        judged = (
-          λ less. accepted ∙ rw (lt-leb (size (shows (numberOf registry) area base)) (room t - used t) less),
-          λ fits. accepted ∙ rw (le-leb (size (shows (numberOf registry) area base)) (room t - used t) fits),
-        )
 
         -- 5: needed records exceed free room
         pub call-5 : room t - used t < size (shows (numberOf registry) area base)
             → areaCall shows (numberOf registry) area base t ≡ record { outcome = noRoom (size (shows (numberOf registry) area base)); lent = t }
-        call-5 = judged .0
+        call-5 less = accepted ∙ fitted-5 (covered area) (shows (numberOf registry) area base) t less
 
         -- 0: done
         pub call-0 : size (shows (numberOf registry) area base) ≤ room t - used t
             → areaCall shows (numberOf registry) area base t ≡ shown (covered area) (shows (numberOf registry) area base) t
-        call-0 = judged .1
+        call-0 fits = accepted ∙ fitted-0 (covered area) (shows (numberOf registry) area base) t fits
 
 -- what holds of every refusal, of the refusal under 5, and of what is shown where no refusal holds, holds of the call
 module _ (P : After → Type 0) (shows : Walk) (area : List ℕ) (base : ℕ) (t : List ℕ)

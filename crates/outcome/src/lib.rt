@@ -1,6 +1,6 @@
 // What a call gives back (document 01, 'Numbers a call gives back').
 ghost use mathlib.Core.Path.{_≡_};
-ghost use Rattle.outcome.specs.Call.{bare, done, refused, numbersOf};
+ghost use Rattle.outcome.specs.Call.{bare, done, refused, noRoom, numbersOf};
 
 // The answer, the octets covered, the records (for a name: octets) written and the records needed.
 pub struct Outcome {
@@ -17,8 +17,17 @@ impl Outcome {
     // Registry not 0 to 5.
     pub const NO_SUCH_REGISTRY: u8 = 1;
 
+    // Area over 65,535 octets.
+    pub const AREA_TOO_LONG: u8 = 2;
+
+    // Base + area length over 4,294,967,295.
+    pub const AREA_TOO_FAR: u8 = 3;
+
     // Tape under 4 words, or its header not in order.
     pub const NO_TAPE: u8 = 4;
+
+    // Needed records exceed free room.
+    pub const NO_ROOM: u8 = 5;
 
     // Read at or past the count; mark past the count.
     pub const PAST_COUNT: u8 = 6;
@@ -56,6 +65,18 @@ impl Outcome {
         ensures { λ r. ⌜ r ≡ refused answer ⌝ }
     {
         Outcome::bare(answer)
+    }
+
+    // The refusal that tells how many records are needed.
+    pub fn no_room(needed: usize) -> Outcome
+        ensures { λ r. ⌜ r ≡ noRoom needed ⌝ }
+    {
+        Outcome {
+            answer: Outcome::NO_ROOM,
+            covered: 0,
+            written: 0,
+            needed,
+        }
     }
 
     // Its four numbers, in document 01's order.

@@ -1,0 +1,52 @@
+-- Room for a call, and its cases.
+use mathlib.Core.Path.{_≡_, refl, sym, ap, _∙_}
+use mathlib.Core.List.{List}
+use Prim.Native.Nat.{ℕ, _+_, _^_, _≤_, _<_}
+use native.Mathlib.Omega.{arith}
+use lib.ListN.{length}
+use Rattle.meaning.specs.Table.{usual}
+use Rattle.meaning.specs.Area.{walked, pushed}
+use Rattle.meaning.specs.Theorems.Bound.{needed-walked, needed-pushed}
+use Rattle.meaning.specs.Theorems.PlanLaws.{usual-sparing}
+use Rattle.outcome.specs.Call.{Gives, refusal}
+use Rattle.registry.specs.Registry.{numberOf, registryOf}
+use Rattle.registry.specs.RegistryLaws.{registryOf-number}
+use Rattle.registry.specs.declared.Found.the-variants.{Known, Unknown}
+use Rattle.registry.specs.declared.Registry.{Registry}
+use Rattle.tape.specs.Tape.{used, withUsed, store}
+use Rattle.tape.specs.Forest.{Forest, size, flat}
+use Rattle.meaning.specs.Value.{Walk}
+use Rattle.meaning.specs.AreaCall.{appended, shown, callIn, areaCall}
+use Rattle.fields.specs.Shows.{Shows}
+use Rattle.fields.specs.declared.Shown.{Shown}
+use Rattle.walk.specs.Rest.{Room}
+
+-- an area that the checks 2 and 3 let pass
+module _ (k : ℕ) (area : List ℕ) (base at : ℕ) (short : length area ≤ 65535) (near : base + length area ≤ 4294967295) (low : at < 2 ^ 61) where
+  -- has room for its walk
+  pub walk-room : Room (walked usual k area base) (length area) base at
+  walk-room = record { octet = omega arith; position = omega (arith, needed-walked usual usual-sparing k area base) }
+
+  -- and for its push
+  pub push-room : Room (pushed usual k area base) (length area) base at
+  push-room = record { octet = omega arith; position = omega (arith, needed-pushed usual usual-sparing k area base) }
+
+-- registries
+
+module _ (shows : Walk) (n : ℕ) (area : List ℕ) (base : ℕ) (t : List ℕ) where
+  -- a number that no registry has
+  pub call-unknown : registryOf n ≡ Unknown → areaCall shows n area base t ≡ refusal 1 t
+  unfolding callIn
+  call-unknown unknown = rw unknown
+
+  -- the number of a registry
+  pub call-known : {registry : Registry} → registryOf n ≡ Known registry → areaCall shows n area base t ≡ areaCall shows (numberOf registry) area base t
+  call-known {registry} known = rw (known, registryOf-number registry)
+
+-- what was laid behind the used records, and is counted now
+pub appended-made : (octets : ℕ) (trees : Forest) (t : List ℕ) {u w : List ℕ} {at n : ℕ} {s : Shown} → at ≡ used t → n ≡ size trees → Shows octets trees t u at s → w ≡ withUsed (s .next .0) u
+    → Gives (shown octets trees t) (record { answer = 0; covered = s .covered; written = n; needed = n }) w
+unfolding appended
+appended-made octets trees t {u} {w} {at} {n} {s} behind counted shows left =
+    let x = rw behind at shows in
+    record { gave = rw (counted, x .covers); left = left ∙ rw (x .laid .place, x .laid .words) }

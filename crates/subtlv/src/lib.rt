@@ -1,0 +1,114 @@
+// The calls walk and push (document 01, 'Numbers a call gives back'): the checks in their order, a count, and then the writing.
+use fields::Shown;
+use outcome::Outcome;
+use registry::Found;
+use registry::Registry;
+use tape::Octet;
+use tape::Position;
+use tape::header::in_order;
+use tape::header::set_used;
+use tape::header::used;
+ghost use mathlib.Core.Path.{_≡_};
+ghost use mathlib.Core.Bool.{true};
+ghost use Prim.Native.Nat.{_+_, _<_, _^_, _≤_};
+ghost use lib.ListN.{length};
+ghost use Rattle.outcome.specs.Call.{Gives};
+ghost use Rattle.registry.specs.Registry.{numberOf};
+ghost use Rattle.tape.specs.Tape.{headed};
+ghost use Rattle.tape.specs.Forest.{size};
+ghost use Rattle.meaning.specs.Frame.{covered};
+ghost use Rattle.meaning.specs.AreaCall.{areaCall, fitted, walkCall, pushCall};
+ghost use Rattle.fields.specs.Shows.{Shows};
+ghost use Rattle.subtlv.specs.Call.{shownBy};
+
+// Which of the two calls it is: they differ in the octets that the walk does not cover.
+enum Call {
+    Walk,
+    Push,
+}
+
+// Lays what the call shows of an area.
+fn show(
+    call: Call,
+    area: &[u8],
+    base: Octet,
+    registry: Registry,
+    tape: &mut [u64],
+    at: Position,
+) -> Shown
+    requires { ⌜ (length (now area) ≤ 65535) × (base .0 + length (now area) ≤ 4294967295) × (at .0 < 2 ^ 61) ⌝ }
+    ensures { λ r. ⌜ Shows (covered (now (area .entry))) (shownBy call (numberOf registry) (now (area .entry)) (base .0)) (now (tape .entry)) (now (tape .exit)) (at .0) r ⌝ }
+{
+    match call {
+        Call::Walk => walk::walk(area, base, registry, tape, at),
+        Call::Push => walk::push(area, base, registry, tape, at),
+    }
+}
+
+// How many records the call needs: the same, laid on a tape that has room for none.
+fn count(call: Call, area: &[u8], base: Octet, registry: Registry) -> usize
+    requires { ⌜ (length (now area) ≤ 65535) × (base .0 + length (now area) ≤ 4294967295) ⌝ }
+    ensures { λ r. ⌜ r ≡ size (shownBy call (numberOf registry) (now (area .entry)) (base .0)) ⌝ }
+{
+    let mut none = [0u64; 1];
+    let shown = show(call, area, base, registry, &mut none, Position(0));
+    let next = shown.next;
+    next.0
+}
+
+// Writes the records behind those that are there, where there is room for them; 5 where there is not.
+fn append(call: Call, area: &[u8], base: Octet, registry: Registry, tape: &mut [u64]) -> Outcome
+    requires { ⌜ (length (now area) ≤ 65535) × (base .0 + length (now area) ≤ 4294967295) × (headed (now tape) ≡ true) ⌝ }
+    ensures { λ r. ⌜ Gives (fitted (covered (now (area .entry))) (shownBy call (numberOf registry) (now (area .entry)) (base .0)) (now (tape .entry))) r (now (tape .exit)) ⌝ }
+{
+    let needed = count(call, area, base, registry);
+    let at = used(tape);
+    let free = (tape.len() - 4) / 6 - at.0;
+    if free < needed {
+        return Outcome::no_room(needed);
+    }
+    let shown = show(call, area, base, registry, tape, at);
+    let covered = shown.covered;
+    let next = shown.next;
+    set_used(tape, next);
+    Outcome {
+        answer: Outcome::DONE,
+        covered,
+        written: needed,
+        needed,
+    }
+}
+
+// The checks 1 to 4 in their order, and then 5 or the records.
+fn checked(call: Call, area: &[u8], base: Octet, registry: u64, tape: &mut [u64]) -> Outcome
+    ensures { λ r. ⌜ Gives (areaCall (shownBy call) registry (now (area .entry)) (base .0) (now (tape .entry))) r (now (tape .exit)) ⌝ }
+{
+    let Found::Known(known) = Registry::of(registry) else {
+        return Outcome::refused(Outcome::NO_SUCH_REGISTRY);
+    };
+    let n = area.len();
+    if 65535 < n {
+        return Outcome::refused(Outcome::AREA_TOO_LONG);
+    }
+    if 4294967295 - n < base.0 {
+        return Outcome::refused(Outcome::AREA_TOO_FAR);
+    }
+    if !in_order(tape) {
+        return Outcome::refused(Outcome::NO_TAPE);
+    }
+    append(call, area, base, known, tape)
+}
+
+// The call walk: the records of an area's complete entries, behind those that the tape has.
+pub fn walk(area: &[u8], base: Octet, registry: u64, tape: &mut [u64]) -> Outcome
+    ensures { λ r. ⌜ Gives (walkCall registry (now (area .entry)) (base .0) (now (tape .entry))) r (now (tape .exit)) ⌝ }
+{
+    checked(Call::Walk, area, base, registry, tape)
+}
+
+// The call push: the walk, and one `raw` record beside it for the octets that it does not cover, if there are any.
+pub fn push(area: &[u8], base: Octet, registry: u64, tape: &mut [u64]) -> Outcome
+    ensures { λ r. ⌜ Gives (pushCall registry (now (area .entry)) (base .0) (now (tape .entry))) r (now (tape .exit)) ⌝ }
+{
+    checked(Call::Push, area, base, registry, tape)
+}
