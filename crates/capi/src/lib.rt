@@ -6,6 +6,7 @@ use calls::cut_back;
 use calls::nest::nest_test;
 use calls::read;
 use octets::mask::mask_prefix;
+use tape::Octet;
 use tape::Position;
 ghost use mathlib.Core.Path.{_≡_};
 ghost use Rattle.octets.specs.Mask.{Masks};
@@ -13,6 +14,7 @@ ghost use Rattle.outcome.specs.Call.{GivesNumbers};
 ghost use Rattle.registry.specs.NameCall.{nameCall};
 ghost use Rattle.calls.specs.Calls.{clearCall, cutBackCall, readCall, GivesRecord};
 ghost use Rattle.calls.specs.Nest.{nestTest, yesNo};
+ghost use Rattle.meaning.specs.AreaCall.{walkCall, pushCall};
 
 // Clears the bits of `prefix` after the first `bits` bits.
 #[no_mangle]
@@ -28,6 +30,36 @@ pub extern "C" fn wakkemosut_name(registry: u64, t: u64, out: &mut [u8], numbers
     ensures { λ _. ⌜ GivesNumbers (nameCall registry t (now (out .entry))) (now (numbers .exit)) (now (out .exit)) ⌝ }
 {
     let outcome = registry::name(registry, t, out);
+    *numbers = outcome.numbers();
+}
+
+// Writes the records of an area's complete entries behind those that the tape has, and the outcome to `numbers`.
+#[no_mangle]
+pub extern "C" fn wakkemosut_walk(
+    area: &[u8],
+    base: u64,
+    registry: u64,
+    tape: &mut [u64],
+    numbers: &mut [u64; 4],
+)
+    ensures { λ _. ⌜ GivesNumbers (walkCall registry (now (area .entry)) base (now (tape .entry))) (now (numbers .exit)) (now (tape .exit)) ⌝ }
+{
+    let outcome = subtlv::walk(area, Octet(base as usize), registry, tape);
+    *numbers = outcome.numbers();
+}
+
+// Writes the same, and a `raw` record beside it for the octets that are left, if there are any.
+#[no_mangle]
+pub extern "C" fn wakkemosut_push(
+    area: &[u8],
+    base: u64,
+    registry: u64,
+    tape: &mut [u64],
+    numbers: &mut [u64; 4],
+)
+    ensures { λ _. ⌜ GivesNumbers (pushCall registry (now (area .entry)) base (now (tape .entry))) (now (numbers .exit)) (now (tape .exit)) ⌝ }
+{
+    let outcome = subtlv::push(area, Octet(base as usize), registry, tape);
     *numbers = outcome.numbers();
 }
 
