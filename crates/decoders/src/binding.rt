@@ -15,7 +15,7 @@ ghost use Rattle.decoders.specs.Reading.{Reads, readingOf, reading};
 
 // SID/Label (RFC 8667, sections 2.3 and 2.4.5).
 fn sid_label(value: &[u8], source: Source, tape: &mut [u64], position: Position) -> Decoded
-    requires { ⌜ (source .base .0 + length (now value) < 2 ^ 32) × (position .0 < 2 ^ 62) ⌝ }
+    requires { ⌜ (source .base .0 + length (now value) < 2 ^ 32) × (position .0 < 2 ^ 59) ⌝ }
     ensures { λ r. ⌜ Reads (readingOf (source .registry) (now (value .entry)) (source .base .0) (usual 3 1 (now (value .entry)))) (now (tape .entry)) (now (tape .exit)) (position .0) r ⌝ }
 {
     if value.len() < 3 {
@@ -35,7 +35,7 @@ fn sid_label(value: &[u8], source: Source, tape: &mut [u64], position: Position)
 
 // A value by its type.
 pub fn binding(value: &[u8], kind: u8, base: Octet, tape: &mut [u64], at: Position) -> Decoded
-    requires { ⌜ (base .0 + length (now value) < 2 ^ 32) × (at .0 < 2 ^ 62) ⌝ }
+    requires { ⌜ (base .0 + length (now value) < 2 ^ 32) × (at .0 < 2 ^ 59) ⌝ }
     ensures { λ r. ⌜ Reads (reading 3 kind (now (value .entry)) (base .0)) (now (tape .entry)) (now (tape .exit)) (at .0) r ⌝ }
 {
     let source = Source {

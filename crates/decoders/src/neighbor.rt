@@ -4,11 +4,15 @@ use crate::Taken;
 use crate::rows::flag_and_number;
 use crate::rows::octet_and_sid;
 use crate::rows::one_address;
-use crate::rows::one_number;
+use crate::rows::one_number24;
+use crate::rows::one_number32;
 use fields::Source;
 use fields::array::numbers;
 use fields::part::flag;
-use fields::part::number;
+use fields::part::number8;
+use fields::part::number16;
+use fields::part::number24;
+use fields::part::number32;
 use fields::part::part;
 use fields::sid::sid;
 use registry::registries::Neighbor;
@@ -26,7 +30,7 @@ ghost use Rattle.decoders.specs.Rows.{endXHead, lanEndXHead};
 
 // Link local and remote identifiers (RFC 5307, section 1.1).
 fn link_identifiers(value: &[u8], source: Source, tape: &mut [u64], position: Position) -> Decoded
-    requires { ⌜ (source .base .0 + length (now value) < 2 ^ 32) × (position .0 < 2 ^ 62) ⌝ }
+    requires { ⌜ (source .base .0 + length (now value) < 2 ^ 32) × (position .0 < 2 ^ 59) ⌝ }
     ensures { λ r. ⌜ Reads (readingOf (source .registry) (now (value .entry)) (source .base .0) (usual 0 4 (now (value .entry)))) (now (tape .entry)) (now (tape .exit)) (position .0) r ⌝ }
 {
     if value.len() < 8 {
@@ -35,26 +39,8 @@ fn link_identifiers(value: &[u8], source: Source, tape: &mut [u64], position: Po
             next: position,
         };
     }
-    let second = number(
-        value,
-        source,
-        Label::LOCAL_IDENTIFIER,
-        Shape::U32,
-        0,
-        4,
-        tape,
-        position,
-    );
-    let next = number(
-        value,
-        source,
-        Label::REMOTE_IDENTIFIER,
-        Shape::U32,
-        4,
-        4,
-        tape,
-        second,
-    );
+    let second = number32(value, source, Label::LOCAL_IDENTIFIER, 0, tape, position);
+    let next = number32(value, source, Label::REMOTE_IDENTIFIER, 4, tape, second);
     Decoded {
         taken: Taken::Octets(8),
         next,
@@ -68,7 +54,7 @@ fn unreserved_bandwidth(
     tape: &mut [u64],
     position: Position,
 ) -> Decoded
-    requires { ⌜ (source .base .0 + length (now value) < 2 ^ 32) × (position .0 < 2 ^ 62) ⌝ }
+    requires { ⌜ (source .base .0 + length (now value) < 2 ^ 32) × (position .0 < 2 ^ 59) ⌝ }
     ensures { λ r. ⌜ Reads (readingOf (source .registry) (now (value .entry)) (source .base .0) (usual 0 11 (now (value .entry)))) (now (tape .entry)) (now (tape .exit)) (position .0) r ⌝ }
 {
     if value.len() < 32 {
@@ -97,7 +83,7 @@ fn unreserved_bandwidth(
 
 // LAN-Adj-SID (RFC 8667, section 2.2.2): Flags | Weight | Neighbor System-ID | SID/Label/Index.
 fn lan_adj_sid(value: &[u8], source: Source, tape: &mut [u64], position: Position) -> Decoded
-    requires { ⌜ (source .base .0 + length (now value) < 2 ^ 32) × (position .0 < 2 ^ 62) ⌝ }
+    requires { ⌜ (source .base .0 + length (now value) < 2 ^ 32) × (position .0 < 2 ^ 59) ⌝ }
     ensures { λ r. ⌜ Reads (readingOf (source .registry) (now (value .entry)) (source .base .0) (usual 0 32 (now (value .entry)))) (now (tape .entry)) (now (tape .exit)) (position .0) r ⌝ }
 {
     if value.len() < 11 {
@@ -106,8 +92,8 @@ fn lan_adj_sid(value: &[u8], source: Source, tape: &mut [u64], position: Positio
             next: position,
         };
     }
-    let second = number(value, source, Label::FLAGS, Shape::U8, 0, 1, tape, position);
-    let third = number(value, source, Label::WEIGHT, Shape::U8, 1, 1, tape, second);
+    let second = number8(value, source, Label::FLAGS, 0, tape, position);
+    let third = number8(value, source, Label::WEIGHT, 1, tape, second);
     let fourth = part(
         source,
         Label::NEIGHBOR_SYSTEM_ID,
@@ -129,7 +115,7 @@ fn lan_adj_sid(value: &[u8], source: Source, tape: &mut [u64], position: Positio
 
 // Min/max link delay (RFC 8570, section 4.2): A | RESERVED | Min Delay | RESERVED | Max Delay.
 fn min_max_delay(value: &[u8], source: Source, tape: &mut [u64], position: Position) -> Decoded
-    requires { ⌜ (source .base .0 + length (now value) < 2 ^ 32) × (position .0 < 2 ^ 62) ⌝ }
+    requires { ⌜ (source .base .0 + length (now value) < 2 ^ 32) × (position .0 < 2 ^ 59) ⌝ }
     ensures { λ r. ⌜ Reads (readingOf (source .registry) (now (value .entry)) (source .base .0) (usual 0 34 (now (value .entry)))) (now (tape .entry)) (now (tape .exit)) (position .0) r ⌝ }
 {
     if value.len() < 8 {
@@ -139,26 +125,8 @@ fn min_max_delay(value: &[u8], source: Source, tape: &mut [u64], position: Posit
         };
     }
     let second = flag(value, source, Label::ANOMALOUS, 0x80, tape, position);
-    let third = number(
-        value,
-        source,
-        Label::MIN_DELAY,
-        Shape::U32,
-        1,
-        3,
-        tape,
-        second,
-    );
-    let next = number(
-        value,
-        source,
-        Label::MAX_DELAY,
-        Shape::U32,
-        5,
-        3,
-        tape,
-        third,
-    );
+    let third = number24(value, source, Label::MIN_DELAY, 1, tape, second);
+    let next = number24(value, source, Label::MAX_DELAY, 5, tape, third);
     Decoded {
         taken: Taken::Octets(8),
         next,
@@ -173,46 +141,17 @@ pub fn end_x_head(
     tape: &mut [u64],
     position: Position,
 ) -> Position
-    requires { ⌜ (at + 5 ≤ length (now value)) × (source .base .0 + length (now value) < 2 ^ 32) × (position .0 < 2 ^ 62 + 1) ⌝ }
+    requires { ⌜ (at + 5 ≤ length (now value)) × (source .base .0 + length (now value) < 2 ^ 32) × (position .0 < 2 ^ 59 + 1) ⌝ }
     ensures { λ r. ⌜ Laid (endXHead (source .registry) (now (value .entry)) (source .base .0) at) (now (tape .entry)) (now (tape .exit)) (position .0) (r .0) ⌝ }
 {
-    let second = number(
-        value,
-        source,
-        Label::FLAGS,
-        Shape::U8,
-        at,
-        1,
-        tape,
-        position,
-    );
-    let third = number(
-        value,
-        source,
-        Label::ALGORITHM,
-        Shape::U8,
-        at + 1,
-        1,
-        tape,
-        second,
-    );
-    let fourth = number(
-        value,
-        source,
-        Label::WEIGHT,
-        Shape::U8,
-        at + 2,
-        1,
-        tape,
-        third,
-    );
-    number(
+    let second = number8(value, source, Label::FLAGS, at, tape, position);
+    let third = number8(value, source, Label::ALGORITHM, at + 1, tape, second);
+    let fourth = number8(value, source, Label::WEIGHT, at + 2, tape, third);
+    number16(
         value,
         source,
         Label::ENDPOINT_BEHAVIOR,
-        Shape::U16,
         at + 3,
-        2,
         tape,
         fourth,
     )
@@ -225,7 +164,7 @@ pub fn lan_end_x_head(
     tape: &mut [u64],
     position: Position,
 ) -> Position
-    requires { ⌜ (11 ≤ length (now value)) × (source .base .0 + length (now value) < 2 ^ 32) × (position .0 < 2 ^ 62) ⌝ }
+    requires { ⌜ (11 ≤ length (now value)) × (source .base .0 + length (now value) < 2 ^ 32) × (position .0 < 2 ^ 59) ⌝ }
     ensures { λ r. ⌜ Laid (lanEndXHead (source .registry) (now (value .entry)) (source .base .0)) (now (tape .entry)) (now (tape .exit)) (position .0) (r .0) ⌝ }
 {
     let second = part(
@@ -243,7 +182,7 @@ pub fn lan_end_x_head(
 
 // A value by its type; the types 43 and 44 hold an area of their own.
 pub fn neighbor(value: &[u8], kind: u8, base: Octet, tape: &mut [u64], at: Position) -> Decoded
-    requires { ⌜ (kind ≡ 43 → ⊥) × (kind ≡ 44 → ⊥) × (base .0 + length (now value) < 2 ^ 32) × (at .0 < 2 ^ 62) ⌝ }
+    requires { ⌜ (kind ≡ 43 → ⊥) × (kind ≡ 44 → ⊥) × (base .0 + length (now value) < 2 ^ 32) × (at .0 < 2 ^ 59) ⌝ }
     ensures { λ r. ⌜ Reads (reading 0 kind (now (value .entry)) (base .0)) (now (tape .entry)) (now (tape .exit)) (at .0) r ⌝ }
 {
     let source = Source {
@@ -251,16 +190,7 @@ pub fn neighbor(value: &[u8], kind: u8, base: Octet, tape: &mut [u64], at: Posit
         base,
     };
     match kind {
-        3 => one_number(
-            value,
-            source,
-            Label::ADMIN_GROUP,
-            Shape::U32,
-            0,
-            4,
-            tape,
-            at,
-        ),
+        3 => one_number32(value, source, Label::ADMIN_GROUP, tape, at),
         4 => link_identifiers(value, source, tape, at),
         6 => one_address(
             value,
@@ -280,26 +210,8 @@ pub fn neighbor(value: &[u8], kind: u8, base: Octet, tape: &mut [u64], at: Posit
             tape,
             at,
         ),
-        9 => one_number(
-            value,
-            source,
-            Label::MAX_BANDWIDTH,
-            Shape::U32,
-            0,
-            4,
-            tape,
-            at,
-        ),
-        10 => one_number(
-            value,
-            source,
-            Label::MAX_RESERVABLE_BANDWIDTH,
-            Shape::U32,
-            0,
-            4,
-            tape,
-            at,
-        ),
+        9 => one_number32(value, source, Label::MAX_BANDWIDTH, tape, at),
+        10 => one_number32(value, source, Label::MAX_RESERVABLE_BANDWIDTH, tape, at),
         11 => unreserved_bandwidth(value, source, tape, at),
         12 => one_address(
             value,
@@ -319,32 +231,14 @@ pub fn neighbor(value: &[u8], kind: u8, base: Octet, tape: &mut [u64], at: Posit
             tape,
             at,
         ),
-        18 => one_number(
-            value,
-            source,
-            Label::TE_DEFAULT_METRIC,
-            Shape::U32,
-            0,
-            3,
-            tape,
-            at,
-        ),
+        18 => one_number24(value, source, Label::TE_DEFAULT_METRIC, 0, tape, at),
         31 => octet_and_sid(value, source, Label::WEIGHT, tape, at),
         32 => lan_adj_sid(value, source, tape, at),
         33 => flag_and_number(value, source, Label::DELAY, tape, at),
         34 => min_max_delay(value, source, tape, at),
-        35 => one_number(
-            value,
-            source,
-            Label::DELAY_VARIATION,
-            Shape::U32,
-            1,
-            3,
-            tape,
-            at,
-        ),
+        35 => one_number24(value, source, Label::DELAY_VARIATION, 1, tape, at),
         36 => flag_and_number(value, source, Label::LINK_LOSS, tape, at),
-        37..=39 => one_number(value, source, Label::BANDWIDTH, Shape::U32, 0, 4, tape, at),
+        37..=39 => one_number32(value, source, Label::BANDWIDTH, tape, at),
         _ => Decoded {
             taken: Taken::Nothing,
             next: at,

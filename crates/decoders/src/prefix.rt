@@ -6,7 +6,8 @@ use crate::rows::octet_and_sid;
 use crate::rows::one_address;
 use fields::Source;
 use fields::part::flag;
-use fields::part::number;
+use fields::part::number8;
+use fields::part::number16;
 use registry::registries::Prefix;
 use tape::Octet;
 use tape::Position;
@@ -22,7 +23,7 @@ ghost use Rattle.decoders.specs.Rows.{endHead};
 
 // Prefix attribute flags (RFC 7794, section 2.1): X | R | N | ...
 fn prefix_attributes(value: &[u8], source: Source, tape: &mut [u64], position: Position) -> Decoded
-    requires { ⌜ (source .base .0 + length (now value) < 2 ^ 32) × (position .0 < 2 ^ 62) ⌝ }
+    requires { ⌜ (source .base .0 + length (now value) < 2 ^ 32) × (position .0 < 2 ^ 59) ⌝ }
     ensures { λ r. ⌜ Reads (readingOf (source .registry) (now (value .entry)) (source .base .0) (usual 1 4 (now (value .entry)))) (now (tape .entry)) (now (tape .exit)) (position .0) r ⌝ }
 {
     if value.len() < 1 {
@@ -31,7 +32,7 @@ fn prefix_attributes(value: &[u8], source: Source, tape: &mut [u64], position: P
             next: position,
         };
     }
-    let second = number(value, source, Label::FLAGS, Shape::U8, 0, 1, tape, position);
+    let second = number8(value, source, Label::FLAGS, 0, tape, position);
     let third = flag(value, source, Label::FLAG_X, 0x80, tape, second);
     let fourth = flag(value, source, Label::FLAG_R, 0x40, tape, third);
     let next = flag(value, source, Label::FLAG_N, 0x20, tape, fourth);
@@ -43,25 +44,16 @@ fn prefix_attributes(value: &[u8], source: Source, tape: &mut [u64], position: P
 
 // What stands before the SID of an SRv6 End SID (RFC 9352, section 7.2): Flags | Endpoint Behavior.
 pub fn end_head(value: &[u8], source: Source, tape: &mut [u64], position: Position) -> Position
-    requires { ⌜ (3 ≤ length (now value)) × (source .base .0 + length (now value) < 2 ^ 32) × (position .0 < 2 ^ 62) ⌝ }
+    requires { ⌜ (3 ≤ length (now value)) × (source .base .0 + length (now value) < 2 ^ 32) × (position .0 < 2 ^ 59) ⌝ }
     ensures { λ r. ⌜ Laid (endHead (source .registry) (now (value .entry)) (source .base .0)) (now (tape .entry)) (now (tape .exit)) (position .0) (r .0) ⌝ }
 {
-    let second = number(value, source, Label::FLAGS, Shape::U8, 0, 1, tape, position);
-    number(
-        value,
-        source,
-        Label::ENDPOINT_BEHAVIOR,
-        Shape::U16,
-        1,
-        2,
-        tape,
-        second,
-    )
+    let second = number8(value, source, Label::FLAGS, 0, tape, position);
+    number16(value, source, Label::ENDPOINT_BEHAVIOR, 1, tape, second)
 }
 
 // A value by its type; type 5 holds an area of its own.
 pub fn prefix(value: &[u8], kind: u8, base: Octet, tape: &mut [u64], at: Position) -> Decoded
-    requires { ⌜ (kind ≡ 5 → ⊥) × (base .0 + length (now value) < 2 ^ 32) × (at .0 < 2 ^ 62) ⌝ }
+    requires { ⌜ (kind ≡ 5 → ⊥) × (base .0 + length (now value) < 2 ^ 32) × (at .0 < 2 ^ 59) ⌝ }
     ensures { λ r. ⌜ Reads (reading 1 kind (now (value .entry)) (base .0)) (now (tape .entry)) (now (tape .exit)) (at .0) r ⌝ }
 {
     let source = Source {

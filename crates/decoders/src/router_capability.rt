@@ -3,11 +3,10 @@ use crate::Decoded;
 use crate::Taken;
 use crate::rows::number_array;
 use crate::rows::one_address;
-use crate::rows::one_number;
 use fields::Source;
 use fields::array::msds;
 use fields::array::ranges;
-use fields::part::number;
+use fields::part::number8;
 use registry::registries::RouterCapability;
 use tape::Octet;
 use tape::Position;
@@ -21,7 +20,7 @@ ghost use Rattle.decoders.specs.Reading.{Reads, readingOf, reading};
 
 // SR-Capabilities and SR Local Block (RFC 8667, sections 3.1 and 3.3): Flags | ranges.
 fn flags_and_ranges(value: &[u8], source: Source, tape: &mut [u64], position: Position) -> Decoded
-    requires { ⌜ (source .base .0 + length (now value) < 2 ^ 32) × (position .0 < 2 ^ 62) ⌝ }
+    requires { ⌜ (source .base .0 + length (now value) < 2 ^ 32) × (position .0 < 2 ^ 59) ⌝ }
     ensures { λ r. ⌜ Reads (readingOf (source .registry) (now (value .entry)) (source .base .0) (usual 2 2 (now (value .entry)))) (now (tape .entry)) (now (tape .exit)) (position .0) r ⌝ }
 {
     let n = value.len();
@@ -31,7 +30,7 @@ fn flags_and_ranges(value: &[u8], source: Source, tape: &mut [u64], position: Po
             next: position,
         };
     }
-    let second = number(value, source, Label::FLAGS, Shape::U8, 0, 1, tape, position);
+    let second = number8(value, source, Label::FLAGS, 0, tape, position);
     let behind = Source {
         registry: source.registry,
         base: Octet(source.base.0 + 1),
@@ -47,7 +46,7 @@ fn flags_and_ranges(value: &[u8], source: Source, tape: &mut [u64], position: Po
 
 // Node MSD (RFC 8491, section 2): MSD-Type | MSD-Value, and so on.
 fn node_msd(value: &[u8], source: Source, tape: &mut [u64], position: Position) -> Decoded
-    requires { ⌜ (source .base .0 + length (now value) < 2 ^ 32) × (position .0 < 2 ^ 62) ⌝ }
+    requires { ⌜ (source .base .0 + length (now value) < 2 ^ 32) × (position .0 < 2 ^ 59) ⌝ }
     ensures { λ r. ⌜ Reads (readingOf (source .registry) (now (value .entry)) (source .base .0) (usual 2 23 (now (value .entry)))) (now (tape .entry)) (now (tape .exit)) (position .0) r ⌝ }
 {
     let shown = msds(value, source, tape, position);
@@ -55,6 +54,24 @@ fn node_msd(value: &[u8], source: Source, tape: &mut [u64], position: Position) 
     let next = shown.next;
     Decoded {
         taken: Taken::Octets(covered),
+        next,
+    }
+}
+
+// SRMS preference (RFC 8667, section 3.4).
+fn preference(value: &[u8], source: Source, tape: &mut [u64], position: Position) -> Decoded
+    requires { ⌜ (source .base .0 + length (now value) < 2 ^ 32) × (position .0 < 2 ^ 59) ⌝ }
+    ensures { λ r. ⌜ Reads (readingOf (source .registry) (now (value .entry)) (source .base .0) (usual 2 24 (now (value .entry)))) (now (tape .entry)) (now (tape .exit)) (position .0) r ⌝ }
+{
+    if value.len() < 1 {
+        return Decoded {
+            taken: Taken::Nothing,
+            next: position,
+        };
+    }
+    let next = number8(value, source, Label::PREFERENCE, 0, tape, position);
+    Decoded {
+        taken: Taken::Octets(1),
         next,
     }
 }
@@ -67,7 +84,7 @@ pub fn router_capability(
     tape: &mut [u64],
     at: Position,
 ) -> Decoded
-    requires { ⌜ (kind ≡ 25 → ⊥) × (base .0 + length (now value) < 2 ^ 32) × (at .0 < 2 ^ 62) ⌝ }
+    requires { ⌜ (kind ≡ 25 → ⊥) × (base .0 + length (now value) < 2 ^ 32) × (at .0 < 2 ^ 59) ⌝ }
     ensures { λ r. ⌜ Reads (reading 2 kind (now (value .entry)) (base .0)) (now (tape .entry)) (now (tape .exit)) (at .0) r ⌝ }
 {
     let source = Source {
@@ -107,7 +124,7 @@ pub fn router_capability(
         ),
         22 => flags_and_ranges(value, source, tape, at),
         23 => node_msd(value, source, tape, at),
-        24 => one_number(value, source, Label::PREFERENCE, Shape::U8, 0, 1, tape, at),
+        24 => preference(value, source, tape, at),
         _ => Decoded {
             taken: Taken::Nothing,
             next: at,

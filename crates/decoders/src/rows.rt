@@ -4,7 +4,9 @@ use crate::Taken;
 use fields::Source;
 use fields::array::numbers;
 use fields::part::flag;
-use fields::part::number;
+use fields::part::number8;
+use fields::part::number24;
+use fields::part::number32;
 use fields::part::part;
 use fields::sid::sid;
 use tape::Position;
@@ -18,29 +20,51 @@ ghost use Rattle.octets.specs.BigEndian.{isWidth};
 ghost use Rattle.decoders.specs.Reading.{Reads};
 ghost use Rattle.decoders.specs.Rows.{oneNumber, oneAddress, octetAndSid, flagAndNumber, numberArray};
 
-// One number of `width` octets, from `at` on.
-pub fn one_number(
+// One number of 24 bits, from `at` on.
+pub fn one_number24(
     value: &[u8],
     source: Source,
     label: u8,
-    shape: u8,
     at: usize,
-    width: usize,
     tape: &mut [u64],
     position: Position,
 ) -> Decoded
-    requires { ⌜ (isWidth width ≡ true) × (at + width ≤ 8) × (source .base .0 + length (now value) < 2 ^ 32) × (position .0 < 2 ^ 62) ⌝ }
-    ensures { λ r. ⌜ Reads (oneNumber label shape at width (source .registry) (now (value .entry)) (source .base .0)) (now (tape .entry)) (now (tape .exit)) (position .0) r ⌝ }
+    requires { ⌜ (at ≤ 8) × (source .base .0 + length (now value) < 2 ^ 32) × (position .0 < 2 ^ 59) ⌝ }
+    ensures { λ r. ⌜ Reads (oneNumber label 2 at 3 (source .registry) (now (value .entry)) (source .base .0)) (now (tape .entry)) (now (tape .exit)) (position .0) r ⌝ }
 {
-    if value.len() < at + width {
+    if value.len() < at + 3 {
         return Decoded {
             taken: Taken::Nothing,
             next: position,
         };
     }
-    let next = number(value, source, label, shape, at, width, tape, position);
+    let next = number24(value, source, label, at, tape, position);
     Decoded {
-        taken: Taken::Octets(at + width),
+        taken: Taken::Octets(at + 3),
+        next,
+    }
+}
+
+// One number of 32 bits.
+pub fn one_number32(
+    value: &[u8],
+    source: Source,
+    label: u8,
+    tape: &mut [u64],
+    position: Position,
+) -> Decoded
+    requires { ⌜ (source .base .0 + length (now value) < 2 ^ 32) × (position .0 < 2 ^ 59) ⌝ }
+    ensures { λ r. ⌜ Reads (oneNumber label 2 0 4 (source .registry) (now (value .entry)) (source .base .0)) (now (tape .entry)) (now (tape .exit)) (position .0) r ⌝ }
+{
+    if value.len() < 4 {
+        return Decoded {
+            taken: Taken::Nothing,
+            next: position,
+        };
+    }
+    let next = number32(value, source, label, 0, tape, position);
+    Decoded {
+        taken: Taken::Octets(4),
         next,
     }
 }
@@ -55,7 +79,7 @@ pub fn one_address(
     tape: &mut [u64],
     position: Position,
 ) -> Decoded
-    requires { ⌜ (source .base .0 + length (now value) < 2 ^ 32) × (position .0 < 2 ^ 62) ⌝ }
+    requires { ⌜ (source .base .0 + length (now value) < 2 ^ 32) × (position .0 < 2 ^ 59) ⌝ }
     ensures { λ r. ⌜ Reads (oneAddress label shape width (source .registry) (now (value .entry)) (source .base .0)) (now (tape .entry)) (now (tape .exit)) (position .0) r ⌝ }
 {
     if value.len() < width {
@@ -79,7 +103,7 @@ pub fn octet_and_sid(
     tape: &mut [u64],
     position: Position,
 ) -> Decoded
-    requires { ⌜ (source .base .0 + length (now value) < 2 ^ 32) × (position .0 < 2 ^ 62) ⌝ }
+    requires { ⌜ (source .base .0 + length (now value) < 2 ^ 32) × (position .0 < 2 ^ 59) ⌝ }
     ensures { λ r. ⌜ Reads (octetAndSid label (source .registry) (now (value .entry)) (source .base .0)) (now (tape .entry)) (now (tape .exit)) (position .0) r ⌝ }
 {
     if value.len() < 5 {
@@ -88,8 +112,8 @@ pub fn octet_and_sid(
             next: position,
         };
     }
-    let second = number(value, source, Label::FLAGS, Shape::U8, 0, 1, tape, position);
-    let third = number(value, source, label, Shape::U8, 1, 1, tape, second);
+    let second = number8(value, source, Label::FLAGS, 0, tape, position);
+    let third = number8(value, source, label, 1, tape, second);
     let shown = sid(value, source, Label::SID, 2, tape, third);
     let covered = shown.covered;
     let next = shown.next;
@@ -107,7 +131,7 @@ pub fn flag_and_number(
     tape: &mut [u64],
     position: Position,
 ) -> Decoded
-    requires { ⌜ (source .base .0 + length (now value) < 2 ^ 32) × (position .0 < 2 ^ 62) ⌝ }
+    requires { ⌜ (source .base .0 + length (now value) < 2 ^ 32) × (position .0 < 2 ^ 59) ⌝ }
     ensures { λ r. ⌜ Reads (flagAndNumber label (source .registry) (now (value .entry)) (source .base .0)) (now (tape .entry)) (now (tape .exit)) (position .0) r ⌝ }
 {
     if value.len() < 4 {
@@ -117,7 +141,7 @@ pub fn flag_and_number(
         };
     }
     let second = flag(value, source, Label::ANOMALOUS, 0x80, tape, position);
-    let next = number(value, source, label, Shape::U32, 1, 3, tape, second);
+    let next = number24(value, source, label, 1, tape, second);
     Decoded {
         taken: Taken::Octets(4),
         next,
@@ -136,7 +160,7 @@ pub fn number_array(
     tape: &mut [u64],
     position: Position,
 ) -> Decoded
-    requires { ⌜ (isWidth width ≡ true) × (source .base .0 + length (now value) < 2 ^ 32) × (position .0 < 2 ^ 62) ⌝ }
+    requires { ⌜ (isWidth width ≡ true) × (source .base .0 + length (now value) < 2 ^ 32) × (position .0 < 2 ^ 59) ⌝ }
     ensures { λ r. ⌜ Reads (numberArray least array label shape width (source .registry) (now (value .entry)) (source .base .0)) (now (tape .entry)) (now (tape .exit)) (position .0) r ⌝ }
 {
     if value.len() < least {

@@ -2,7 +2,7 @@
 use crate::Decoded;
 use crate::Taken;
 use fields::Source;
-use fields::part::number;
+use fields::part::number8;
 use registry::registries::Srv6Sid;
 use tape::Octet;
 use tape::Position;
@@ -15,7 +15,7 @@ ghost use Rattle.decoders.specs.Reading.{Reads, readingOf, reading};
 
 // SRv6 SID Structure (RFC 9352, section 9): LB Length | LN Length | Fun. Length | Arg. Length.
 fn sid_structure(value: &[u8], source: Source, tape: &mut [u64], position: Position) -> Decoded
-    requires { ⌜ (source .base .0 + length (now value) < 2 ^ 32) × (position .0 < 2 ^ 62) ⌝ }
+    requires { ⌜ (source .base .0 + length (now value) < 2 ^ 32) × (position .0 < 2 ^ 59) ⌝ }
     ensures { λ r. ⌜ Reads (readingOf (source .registry) (now (value .entry)) (source .base .0) (usual 4 1 (now (value .entry)))) (now (tape .entry)) (now (tape .exit)) (position .0) r ⌝ }
 {
     if value.len() < 4 {
@@ -24,46 +24,17 @@ fn sid_structure(value: &[u8], source: Source, tape: &mut [u64], position: Posit
             next: position,
         };
     }
-    let second = number(
+    let second = number8(
         value,
         source,
         Label::LOCATOR_BLOCK_LENGTH,
-        Shape::U8,
         0,
-        1,
         tape,
         position,
     );
-    let third = number(
-        value,
-        source,
-        Label::LOCATOR_NODE_LENGTH,
-        Shape::U8,
-        1,
-        1,
-        tape,
-        second,
-    );
-    let fourth = number(
-        value,
-        source,
-        Label::FUNCTION_LENGTH,
-        Shape::U8,
-        2,
-        1,
-        tape,
-        third,
-    );
-    let next = number(
-        value,
-        source,
-        Label::ARGUMENT_LENGTH,
-        Shape::U8,
-        3,
-        1,
-        tape,
-        fourth,
-    );
+    let third = number8(value, source, Label::LOCATOR_NODE_LENGTH, 1, tape, second);
+    let fourth = number8(value, source, Label::FUNCTION_LENGTH, 2, tape, third);
+    let next = number8(value, source, Label::ARGUMENT_LENGTH, 3, tape, fourth);
     Decoded {
         taken: Taken::Octets(4),
         next,
@@ -72,7 +43,7 @@ fn sid_structure(value: &[u8], source: Source, tape: &mut [u64], position: Posit
 
 // A value by its type.
 pub fn srv6_sid(value: &[u8], kind: u8, base: Octet, tape: &mut [u64], at: Position) -> Decoded
-    requires { ⌜ (base .0 + length (now value) < 2 ^ 32) × (at .0 < 2 ^ 62) ⌝ }
+    requires { ⌜ (base .0 + length (now value) < 2 ^ 32) × (at .0 < 2 ^ 59) ⌝ }
     ensures { λ r. ⌜ Reads (reading 4 kind (now (value .entry)) (base .0)) (now (tape .entry)) (now (tape .exit)) (at .0) r ⌝ }
 {
     let source = Source {

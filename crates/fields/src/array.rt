@@ -2,6 +2,8 @@
 use crate::Shown;
 use crate::Source;
 use crate::part::number;
+use crate::part::number8;
+use crate::part::number24;
 use crate::sid::sid;
 use tape::Content;
 use tape::Octet;
@@ -34,7 +36,7 @@ pub fn container(
     position: Position,
     next: Position,
 )
-    requires { ⌜ (source .base .0 + width < 2 ^ 32) × (position .0 < 2 ^ 63) ⌝ }
+    requires { ⌜ (source .base .0 + width < 2 ^ 32) × (position .0 < 2 ^ 60) ⌝ }
     ensures { λ _. ⌜ now (tape .exit) ≡ putAt (now (tape .entry)) (position .0) (containerRecord (content label shape (source .registry) (source .base .0) (source .base .0 + width) 0) (position .0 + 1) (next .0)) ⌝ }
 {
     let start = source.base.0;
@@ -60,7 +62,7 @@ pub fn numbers(
     tape: &mut [u64],
     position: Position,
 ) -> Shown
-    requires { ⌜ (isWidth width ≡ true) × (source .base .0 + length (now octets) < 2 ^ 32) × (position .0 + 3 * length (now octets) + 3 < 2 ^ 63) ⌝ }
+    requires { ⌜ (isWidth width ≡ true) × (source .base .0 + length (now octets) < 2 ^ 32) × (position .0 + 3 * length (now octets) + 3 < 2 ^ 60) ⌝ }
     ensures { λ r. ⌜ Shows (total (pieces (whole width) (now (octets .entry)))) (arrayBy array (source .registry) (numberTrees label shape width (source .registry)) (source .base .0) (pieces (whole width) (now (octets .entry)))) (now (tape .entry)) (now (tape .exit)) (position .0) r ⌝ }
 {
     let n = octets.len();
@@ -76,37 +78,19 @@ pub fn numbers(
 
 // Lays an MSD: its type and its value.
 fn msd(octets: &[u8], source: Source, tape: &mut [u64], position: Position) -> Position
-    requires { ⌜ (length (now octets) ≡ 2) × (source .base .0 + 2 < 2 ^ 32) × (position .0 + 3 < 2 ^ 63) ⌝ }
+    requires { ⌜ (length (now octets) ≡ 2) × (source .base .0 + 2 < 2 ^ 32) × (position .0 + 3 < 2 ^ 60) ⌝ }
     ensures { λ r. ⌜ Laid (elementTrees msdElement (source .registry) (now (octets .entry)) (source .base .0)) (now (tape .entry)) (now (tape .exit)) (position .0) (r .0) ⌝ }
 {
     let first = Position(position.0 + 1);
-    let second = number(
-        octets,
-        source,
-        Label::MSD_TYPE,
-        Shape::U8,
-        0,
-        1,
-        tape,
-        first,
-    );
-    let next = number(
-        octets,
-        source,
-        Label::MSD_VALUE,
-        Shape::U8,
-        1,
-        1,
-        tape,
-        second,
-    );
+    let second = number8(octets, source, Label::MSD_TYPE, 0, tape, first);
+    let next = number8(octets, source, Label::MSD_VALUE, 1, tape, second);
     container(source, Label::MSD, Shape::OBJECT, 2, tape, position, next);
     next
 }
 
 // Lays the array of MSDs.
 pub fn msds(octets: &[u8], source: Source, tape: &mut [u64], position: Position) -> Shown
-    requires { ⌜ (source .base .0 + length (now octets) < 2 ^ 32) × (position .0 + 3 * length (now octets) + 3 < 2 ^ 63) ⌝ }
+    requires { ⌜ (source .base .0 + length (now octets) < 2 ^ 32) × (position .0 + 3 * length (now octets) + 3 < 2 ^ 60) ⌝ }
     ensures { λ r. ⌜ Shows (total (pieces (whole 2) (now (octets .entry)))) (arrayBy 42 (source .registry) (elementTrees msdElement (source .registry)) (source .base .0) (pieces (whole 2) (now (octets .entry)))) (now (tape .entry)) (now (tape .exit)) (position .0) r ⌝ }
 {
     let n = octets.len();
@@ -150,21 +134,12 @@ fn range_length(octets: &[u8], at: usize) -> usize
 
 // Lays a range: its size and its SID.
 fn range(octets: &[u8], source: Source, tape: &mut [u64], position: Position) -> Position
-    requires { ⌜ (8 ≤ length (now octets)) × (source .base .0 + length (now octets) < 2 ^ 32) × (position .0 + 3 < 2 ^ 63) ⌝ }
+    requires { ⌜ (8 ≤ length (now octets)) × (source .base .0 + length (now octets) < 2 ^ 32) × (position .0 + 3 < 2 ^ 60) ⌝ }
     ensures { λ r. ⌜ Laid (elementTrees rangeElement (source .registry) (now (octets .entry)) (source .base .0)) (now (tape .entry)) (now (tape .exit)) (position .0) (r .0) ⌝ }
 {
     let n = octets.len();
     let first = Position(position.0 + 1);
-    let second = number(
-        octets,
-        source,
-        Label::RANGE_SIZE,
-        Shape::U32,
-        0,
-        3,
-        tape,
-        first,
-    );
+    let second = number24(octets, source, Label::RANGE_SIZE, 0, tape, first);
     let shown = sid(octets, source, Label::RANGE_SID, 5, tape, second);
     let next = shown.next;
     container(source, Label::RANGE, Shape::OBJECT, n, tape, position, next);
@@ -173,7 +148,7 @@ fn range(octets: &[u8], source: Source, tape: &mut [u64], position: Position) ->
 
 // Lays the array of ranges.
 pub fn ranges(octets: &[u8], source: Source, tape: &mut [u64], position: Position) -> Shown
-    requires { ⌜ (source .base .0 + length (now octets) < 2 ^ 32) × (position .0 + 3 * length (now octets) + 3 < 2 ^ 63) ⌝ }
+    requires { ⌜ (source .base .0 + length (now octets) < 2 ^ 32) × (position .0 + 3 * length (now octets) + 3 < 2 ^ 60) ⌝ }
     ensures { λ r. ⌜ Shows (total (pieces rangeLength (now (octets .entry)))) (arrayBy 40 (source .registry) (elementTrees rangeElement (source .registry)) (source .base .0) (pieces rangeLength (now (octets .entry)))) (now (tape .entry)) (now (tape .exit)) (position .0) r ⌝ }
 {
     let registry = source.registry;

@@ -1,6 +1,10 @@
 // Parts of a value: a number, an address or plain octets, a bit.
 use crate::Source;
+use octets::read::octet;
 use octets::read::read_be;
+use octets::read::read_be_u16;
+use octets::read::read_be_u24;
+use octets::read::read_be_u32;
 use tape::Content;
 use tape::Octet;
 use tape::Position;
@@ -26,7 +30,7 @@ pub fn part(
     tape: &mut [u64],
     position: Position,
 ) -> Position
-    requires { ⌜ (source .base .0 + at + width < 2 ^ 32) × (position .0 < 2 ^ 63) ⌝ }
+    requires { ⌜ (source .base .0 + at + width < 2 ^ 32) × (position .0 < 2 ^ 60) ⌝ }
     ensures { λ r. ⌜ Laid (leaf (content label shape (source .registry) (source .base .0 + at) (source .base .0 + at + width) number) none) (now (tape .entry)) (now (tape .exit)) (position .0) (r .0) ⌝ }
 {
     let start = source.base.0 + at;
@@ -41,7 +45,7 @@ pub fn part(
     lay::leaf(tape, position, content)
 }
 
-// Lays the number in the `width` octets of a value from `at` on.
+// Lays the number in the `width` octets of a value from `at` on, for the elements of an array.
 pub fn number(
     value: &[u8],
     source: Source,
@@ -52,11 +56,75 @@ pub fn number(
     tape: &mut [u64],
     position: Position,
 ) -> Position
-    requires { ⌜ (isWidth width ≡ true) × (at + width ≤ length (now value)) × (source .base .0 + length (now value) < 2 ^ 32) × (position .0 < 2 ^ 63) ⌝ }
+    requires { ⌜ (isWidth width ≡ true) × (at + width ≤ length (now value)) × (source .base .0 + length (now value) < 2 ^ 32) × (position .0 < 2 ^ 60) ⌝ }
     ensures { λ r. ⌜ Laid (leaf (content label shape (source .registry) (source .base .0 + at) (source .base .0 + at + width) (bigEndian (now (value .entry)) at width)) none) (now (tape .entry)) (now (tape .exit)) (position .0) (r .0) ⌝ }
 {
     let number = read_be(value, at, width);
     part(source, label, shape, at, width, number, tape, position)
+}
+
+// Lays the octet of a value at `at`, as a number.
+pub fn number8(
+    value: &[u8],
+    source: Source,
+    label: u8,
+    at: usize,
+    tape: &mut [u64],
+    position: Position,
+) -> Position
+    requires { ⌜ (at + 1 ≤ length (now value)) × (source .base .0 + length (now value) < 2 ^ 32) × (position .0 < 2 ^ 60) ⌝ }
+    ensures { λ r. ⌜ Laid (leaf (content label 0 (source .registry) (source .base .0 + at) (source .base .0 + at + 1) (bigEndian (now (value .entry)) at 1)) none) (now (tape .entry)) (now (tape .exit)) (position .0) (r .0) ⌝ }
+{
+    let number = octet(value, at) as u64;
+    part(source, label, Shape::U8, at, 1, number, tape, position)
+}
+
+// Lays the number in the 2 octets of a value from `at` on.
+pub fn number16(
+    value: &[u8],
+    source: Source,
+    label: u8,
+    at: usize,
+    tape: &mut [u64],
+    position: Position,
+) -> Position
+    requires { ⌜ (at + 2 ≤ length (now value)) × (source .base .0 + length (now value) < 2 ^ 32) × (position .0 < 2 ^ 60) ⌝ }
+    ensures { λ r. ⌜ Laid (leaf (content label 1 (source .registry) (source .base .0 + at) (source .base .0 + at + 2) (bigEndian (now (value .entry)) at 2)) none) (now (tape .entry)) (now (tape .exit)) (position .0) (r .0) ⌝ }
+{
+    let number = read_be_u16(value, at) as u64;
+    part(source, label, Shape::U16, at, 2, number, tape, position)
+}
+
+// Lays the number in the 3 octets of a value from `at` on.
+pub fn number24(
+    value: &[u8],
+    source: Source,
+    label: u8,
+    at: usize,
+    tape: &mut [u64],
+    position: Position,
+) -> Position
+    requires { ⌜ (at + 3 ≤ length (now value)) × (source .base .0 + length (now value) < 2 ^ 32) × (position .0 < 2 ^ 60) ⌝ }
+    ensures { λ r. ⌜ Laid (leaf (content label 2 (source .registry) (source .base .0 + at) (source .base .0 + at + 3) (bigEndian (now (value .entry)) at 3)) none) (now (tape .entry)) (now (tape .exit)) (position .0) (r .0) ⌝ }
+{
+    let number = read_be_u24(value, at) as u64;
+    part(source, label, Shape::U32, at, 3, number, tape, position)
+}
+
+// Lays the number in the 4 octets of a value from `at` on.
+pub fn number32(
+    value: &[u8],
+    source: Source,
+    label: u8,
+    at: usize,
+    tape: &mut [u64],
+    position: Position,
+) -> Position
+    requires { ⌜ (at + 4 ≤ length (now value)) × (source .base .0 + length (now value) < 2 ^ 32) × (position .0 < 2 ^ 60) ⌝ }
+    ensures { λ r. ⌜ Laid (leaf (content label 2 (source .registry) (source .base .0 + at) (source .base .0 + at + 4) (bigEndian (now (value .entry)) at 4)) none) (now (tape .entry)) (now (tape .exit)) (position .0) (r .0) ⌝ }
+{
+    let number = read_be_u32(value, at) as u64;
+    part(source, label, Shape::U32, at, 4, number, tape, position)
 }
 
 // Lays a bit of a value's octet 0, as 0 or 1.
@@ -68,7 +136,7 @@ pub fn flag(
     tape: &mut [u64],
     position: Position,
 ) -> Position
-    requires { ⌜ (1 ≤ mask) × (1 ≤ length (now value)) × (source .base .0 + length (now value) < 2 ^ 32) × (position .0 < 2 ^ 63) ⌝ }
+    requires { ⌜ (1 ≤ mask) × (1 ≤ length (now value)) × (source .base .0 + length (now value) < 2 ^ 32) × (position .0 < 2 ^ 60) ⌝ }
     ensures { λ r. ⌜ Laid (leaf (content label 0 (source .registry) (source .base .0) (source .base .0 + 1) (getD (now (value .entry)) 0 0 / mask % 2)) none) (now (tape .entry)) (now (tape .exit)) (position .0) (r .0) ⌝ }
 {
     let bit = value[0] / mask % 2;

@@ -45,7 +45,7 @@ pub fn sid(
     tape: &mut [u64],
     position: Position,
 ) -> Shown
-    requires { ⌜ (at + 3 ≤ length (now value)) × (source .base .0 + length (now value) < 2 ^ 32) × (position .0 < 2 ^ 63) ⌝ }
+    requires { ⌜ (at + 3 ≤ length (now value)) × (source .base .0 + length (now value) < 2 ^ 32) × (position .0 < 2 ^ 60) ⌝ }
     ensures { λ r. ⌜ Shows (at + sidWidth (now (value .entry)) at) (leaf (content label 2 (source .registry) (source .base .0 + at) (source .base .0 + at + sidWidth (now (value .entry)) at) (sidNumber (now (value .entry)) at)) none) (now (tape .entry)) (now (tape .exit)) (position .0) r ⌝ }
 {
     let sid = read_sid(value, at);

@@ -6,7 +6,7 @@ ghost use lib.ListN.{length};
 ghost use Rattle.octets.specs.BigEndian.{bigEndian, isWidth};
 
 // The octet at `at`.
-fn octet(s: &[u8], at: usize) -> u8
+pub fn octet(s: &[u8], at: usize) -> u8
     requires { ⌜ at < length (now s) ⌝ }
     ensures { λ r. ⌜ r ≡ bigEndian (now (s .entry)) at 1 ⌝ }
 {

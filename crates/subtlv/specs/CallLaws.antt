@@ -22,7 +22,7 @@ use Rattle.fields.specs.declared.Shown.{Shown}
 use Rattle.walk.specs.Rest.{Room}
 
 -- an area that the checks 2 and 3 let pass
-module _ (k : ℕ) (area : List ℕ) (base at : ℕ) (short : length area ≤ 65535) (near : base + length area ≤ 4294967295) (low : at < 2 ^ 61) where
+module _ (k : ℕ) (area : List ℕ) (base at : ℕ) (short : length area ≤ 65535) (near : base + length area ≤ 4294967295) (low : at < 2 ^ 58) where
   -- has room for its walk
   pub walk-room : Room (walked usual k area base) (length area) base at
   walk-room = record { octet = omega arith; position = omega (arith, needed-walked usual usual-sparing k area base) }

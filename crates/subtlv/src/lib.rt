@@ -36,7 +36,7 @@ fn show(
     tape: &mut [u64],
     at: Position,
 ) -> Shown
-    requires { ⌜ (length (now area) ≤ 65535) × (base .0 + length (now area) ≤ 4294967295) × (at .0 < 2 ^ 61) ⌝ }
+    requires { ⌜ (length (now area) ≤ 65535) × (base .0 + length (now area) ≤ 4294967295) × (at .0 < 2 ^ 58) ⌝ }
     ensures { λ r. ⌜ Shows (covered (now (area .entry))) (shownBy call (numberOf registry) (now (area .entry)) (base .0)) (now (tape .entry)) (now (tape .exit)) (at .0) r ⌝ }
 {
     match call {

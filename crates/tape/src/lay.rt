@@ -11,7 +11,7 @@ ghost use Rattle.tape.specs.Laid.{Laid};
 
 // Lays a leaf at position `at`, and gives the position after it.
 pub fn leaf(tape: &mut [u64], at: Position, content: Content) -> Position
-    requires { ⌜ at .0 < 2 ^ 63 ⌝ }
+    requires { ⌜ at .0 < 2 ^ 60 ⌝ }
     ensures { λ r. ⌜ Laid (leaf content none) (now (tape .entry)) (now (tape .exit)) (at .0) (r .0) ⌝ }
 {
     let p = at.0;
@@ -21,7 +21,7 @@ pub fn leaf(tape: &mut [u64], at: Position, content: Content) -> Position
 
 // Lays a container at position `at`, whose children stand behind it, up to position `next`.
 pub fn container(tape: &mut [u64], at: Position, content: Content, next: Position)
-    requires { ⌜ at .0 < 2 ^ 63 ⌝ }
+    requires { ⌜ at .0 < 2 ^ 60 ⌝ }
     ensures { λ _. ⌜ now (tape .exit) ≡ putAt (now (tape .entry)) (at .0) (containerRecord content (at .0 + 1) (next .0)) ⌝ }
 {
     let p = at.0;

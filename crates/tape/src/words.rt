@@ -3,26 +3,24 @@ use crate::Octet;
 use crate::Position;
 use crate::Record;
 ghost use mathlib.Core.Path.{_≡_};
-ghost use Prim.Native.Nat.{_+_, _*_, _≤_};
+ghost use Prim.Native.Nat.{_+_, _*_, _^_, _<_, _≤_};
 ghost use lib.ListN.{length};
 ghost use Rattle.tape.specs.Tape.{putAt, recordAt};
 
 // Writes the six words of `r` at position `at`, where they lie inside the tape, and nothing elsewhere.
 pub fn put(tape: &mut [u64], at: Position, r: Record)
+    requires { ⌜ at .0 < 2 ^ 60 ⌝ }
     ensures { λ _. ⌜ now (tape .exit) ≡ putAt (now (tape .entry)) (at .0) r ⌝ }
 {
-    let n = tape.len();
     let p = at.0;
-    if 10 <= n {
-        if p <= (n - 10) / 6 {
-            let b = 4 + 6 * p;
-            tape[b] = r.tag;
-            tape[b + 1] = r.start.0 as u64;
-            tape[b + 2] = r.end.0 as u64;
-            tape[b + 3] = r.number;
-            tape[b + 4] = r.first.0 as u64;
-            tape[b + 5] = r.past.0 as u64;
-        }
+    let b = 4 + 6 * p;
+    if b + 6 <= tape.len() {
+        tape[b] = r.tag;
+        tape[b + 1] = r.start.0 as u64;
+        tape[b + 2] = r.end.0 as u64;
+        tape[b + 3] = r.number;
+        tape[b + 4] = r.first.0 as u64;
+        tape[b + 5] = r.past.0 as u64;
     }
 }
 

@@ -15,4 +15,4 @@ restOf registry v base Nothing = value registry base v
 -- places and positions stay small: n octets whose first stands at base, trees whose first record stands at position at
 pub record Room (trees : Forest) (n base at : ℕ) : Type 0 where
   pub octet : base + n < 2 ^ 32
-  pub position : at + size trees < 2 ^ 62
+  pub position : at + size trees < 2 ^ 59

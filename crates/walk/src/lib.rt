@@ -12,7 +12,8 @@ use decoders::srv6_sid::srv6_sid;
 use fields::Shown;
 use fields::Source;
 use fields::array::container;
-use fields::part::number;
+use fields::part::number8;
+use fields::part::number16;
 use fields::part::part;
 use registry::Registry;
 use registry::registries::Neighbor;
@@ -39,7 +40,7 @@ ghost use Rattle.walk.specs.Rest.{restOf, Room};
 
 // Lays the octets from `at` on as one `raw` record, or nothing where there are none.
 fn raw(octets: &[u8], source: Source, at: usize, tape: &mut [u64], position: Position) -> Position
-    requires { ⌜ (source .base .0 + length (now octets) < 2 ^ 32) × (position .0 < 2 ^ 63) ⌝ }
+    requires { ⌜ (source .base .0 + length (now octets) < 2 ^ 32) × (position .0 < 2 ^ 60) ⌝ }
     ensures { λ r. ⌜ Laid (rawTrees (source .registry) (source .base .0 + at) (drop at (now (octets .entry)))) (now (tape .entry)) (now (tape .exit)) (position .0) (r .0) ⌝ }
 {
     let n = octets.len();
@@ -66,7 +67,7 @@ fn rest(
     tape: &mut [u64],
     position: Position,
 ) -> Position
-    requires { ⌜ (source .base .0 + length (now value) < 2 ^ 32) × (position .0 < 2 ^ 63) ⌝ }
+    requires { ⌜ (source .base .0 + length (now value) < 2 ^ 32) × (position .0 < 2 ^ 60) ⌝ }
     ensures { λ r. ⌜ Laid (restOf (source .registry) (now (value .entry)) (source .base .0) taken) (now (tape .entry)) (now (tape .exit)) (position .0) (r .0) ⌝ }
 {
     match taken {
@@ -209,7 +210,7 @@ fn decode_router_capability(
                     next: at,
                 };
             }
-            let after = number(value, source, Label::SRV6_FLAGS, Shape::U16, 0, 2, tape, at);
+            let after = number16(value, source, Label::SRV6_FLAGS, 0, tape, at);
             let shown = push(
                 &value[2..n],
                 Octet(base.0 + 2),
@@ -261,17 +262,8 @@ fn entry(octets: &[u8], base: Octet, registry: Registry, tape: &mut [u64], at: P
     let k = registry.number() as u8;
     let source = Source { registry: k, base };
     let inside = Octet(base.0 + 2);
-    let second = number(
-        octets,
-        source,
-        Label::TYPE,
-        Shape::U8,
-        0,
-        1,
-        tape,
-        Position(at.0 + 1),
-    );
-    let third = number(octets, source, Label::LENGTH, Shape::U8, 1, 1, tape, second);
+    let second = number8(octets, source, Label::TYPE, 0, tape, Position(at.0 + 1));
+    let third = number8(octets, source, Label::LENGTH, 1, tape, second);
     let value = &octets[2..n];
     let decoded = decode(value, octets[0], inside, registry, tape, third);
     let taken = decoded.taken;

@@ -5,43 +5,43 @@ use borrow.Author.Needs.{needs}
 use Rattle.decoders.proofs.neighbor.end_x_head.Statement.{statement}
 use Rattle.decoders.proofs.neighbor.end_x_head.Tie as tie
 
-number-requires : tie.Need-number-requires
-number-requires c κs = search needs
+number8-requires : tie.Need-number8-requires
+number8-requires c κs = search needs
 
-add-number : tie.Need-add-number
-add-number c = search needs
+add-number8 : tie.Need-add-number8
+add-number8 c = search needs
 
-number-requires-2 : tie.Need-number-requires-2
-number-requires-2 c κs = search needs
+number8-requires-2 : tie.Need-number8-requires-2
+number8-requires-2 c κs = search needs
 
-add-number-2 : tie.Need-add-number-2
-add-number-2 c = search needs
+add-number8-2 : tie.Need-add-number8-2
+add-number8-2 c = search needs
 
-number-requires-3 : tie.Need-number-requires-3
-number-requires-3 c κs = search needs
+number8-requires-3 : tie.Need-number8-requires-3
+number8-requires-3 c κs = search needs
 
-add-number-3 : tie.Need-add-number-3
-add-number-3 c = search needs
+add-number16 : tie.Need-add-number16
+add-number16 c = search needs
 
-number-requires-4 : tie.Need-number-requires-4
-number-requires-4 c κs = search needs
+number16-requires : tie.Need-number16-requires
+number16-requires c κs = search needs
 
 same-length : tie.Need-same-length
 same-length c = search needs
 
 returns : tie.Need-returns
-returns c = laid-then (c .before .before .before .before .before .before .before .before .before .before .before .before .before .before .number .ensures) (laid-then (c .before .before .before .before .before .before .before .before .before .before .number2 .ensures) (laid-then (c .before .before .before .before .before .before .number3 .ensures) (c .before .before .number4 .ensures)))
+returns c = laid-then (c .before .before .before .before .before .before .before .before .before .before .before .before .before .before .number8 .ensures) (laid-then (c .before .before .before .before .before .before .before .before .before .before .number82 .ensures) (laid-then (c .before .before .before .before .before .before .number83 .ensures) (c .before .before .number16 .ensures)))
 
 pub end-x-head-spec : {M : Type 1} → statement M
 end-x-head-spec =
     tie.close
     (tie.spec
-    number-requires
-    add-number
-    number-requires-2
-    add-number-2
-    number-requires-3
-    add-number-3
-    number-requires-4
+    number8-requires
+    add-number8
+    number8-requires-2
+    add-number8-2
+    number8-requires-3
+    add-number16
+    number16-requires
     same-length
     returns)

@@ -19,11 +19,11 @@ returns : tie.Need-returns
 unfolding usual fieldsOf table leastIn fieldsIn
 returns c = let g = c .before .before .before .args in row-short 0 32 (g .source .registry) (g .value .now) (g .source .base .0) refl (c .if1 .taken)
 
-number-requires : tie.Need-number-requires
-number-requires c κs = search needs
+number8-requires : tie.Need-number8-requires
+number8-requires c κs = search needs
 
-number-requires-2 : tie.Need-number-requires-2
-number-requires-2 c κs = search needs
+number8-requires-2 : tie.Need-number8-requires-2
+number8-requires-2 c κs = search needs
 
 part-requires : tie.Need-part-requires
 part-requires c κs = search needs
@@ -36,15 +36,15 @@ same-length c = search needs
 
 returns-2 : tie.Need-returns-2
 unfolding usual fieldsOf table leastIn fieldsIn readingOf fieldsTrees fieldTrees taken fieldEnd _⧺_
-returns-2 c = let g = c .before .before .before .before .before .before .before .before .before .before .before .before .before .before .before .before .before .before .before .before .args in let x = shown-sid (g .value .now) 8 Label.sid (g .source .registry) (g .source .base .0) (omega arith) (c .before .before .before .sid .ensures) in row-long 0 32 (g .source .registry) (g .value .now) (g .source .base .0) refl (c .before .before .before .before .before .before .before .before .before .before .before .before .before .before .before .before .before .if1 .left) (record { taken = ap Octets (x .covers); laid = laid-then (c .before .before .before .before .before .before .before .before .before .before .before .before .before .before .before .number .ensures) (laid-then (c .before .before .before .before .before .before .before .before .before .before .before .number2 .ensures) (laid-then (c .before .before .before .before .before .before .before .part .ensures) (laid-then (x .laid) laid-none))) })
+returns-2 c = let g = c .before .before .before .before .before .before .before .before .before .before .before .before .before .before .before .before .before .before .before .before .args in let x = shown-sid (g .value .now) 8 Label.sid (g .source .registry) (g .source .base .0) (omega arith) (c .before .before .before .sid .ensures) in row-long 0 32 (g .source .registry) (g .value .now) (g .source .base .0) refl (c .before .before .before .before .before .before .before .before .before .before .before .before .before .before .before .before .before .if1 .left) (record { taken = ap Octets (x .covers); laid = laid-then (c .before .before .before .before .before .before .before .before .before .before .before .before .before .before .before .number8 .ensures) (laid-then (c .before .before .before .before .before .before .before .before .before .before .before .number82 .ensures) (laid-then (c .before .before .before .before .before .before .before .part .ensures) (laid-then (x .laid) laid-none))) })
 
 pub lan-adj-sid-spec : {M : Type 1} → statement M
 lan-adj-sid-spec =
     tie.close
     (tie.spec
     returns
-    number-requires
-    number-requires-2
+    number8-requires
+    number8-requires-2
     part-requires
     sid-requires
     same-length

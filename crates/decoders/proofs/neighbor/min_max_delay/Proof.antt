@@ -19,20 +19,20 @@ returns c = let g = c .before .before .before .args in row-short 0 34 (g .source
 flag-requires : tie.Need-flag-requires
 flag-requires c κs = search needs
 
-number-requires : tie.Need-number-requires
-number-requires c κs = search needs
+number24-requires : tie.Need-number24-requires
+number24-requires c κs = search needs
 
-number-requires-2 : tie.Need-number-requires-2
-number-requires-2 c κs = search needs
+number24-requires-2 : tie.Need-number24-requires-2
+number24-requires-2 c κs = search needs
 
 same-length : tie.Need-same-length
 same-length c = search needs
 
 returns-2 : tie.Need-returns-2
 unfolding usual fieldsOf table leastIn fieldsIn readingOf fieldsTrees fieldTrees taken fieldEnd _⧺_
-returns-2 c = let g = c .before .before .before .before .before .before .before .before .before .before .before .before .before .before .before .args in row-long 0 34 (g .source .registry) (g .value .now) (g .source .base .0) refl (c .before .before .before .before .before .before .before .before .before .before .before .before .if1 .left) (record { taken = refl; laid = laid-then (c .before .before .before .before .before .before .before .before .before .before .flag .ensures) (laid-then (c .before .before .before .before .before .before .number .ensures) (c .before .before .number2 .ensures)) })
+returns-2 c = let g = c .before .before .before .before .before .before .before .before .before .before .before .before .before .before .before .args in row-long 0 34 (g .source .registry) (g .value .now) (g .source .base .0) refl (c .before .before .before .before .before .before .before .before .before .before .before .before .if1 .left) (record { taken = refl; laid = laid-then (c .before .before .before .before .before .before .before .before .before .before .flag .ensures) (laid-then (c .before .before .before .before .before .before .number24 .ensures) (c .before .before .number242 .ensures)) })
 
 pub min-max-delay-spec : {M : Type 1} → statement M
 min-max-delay-spec =
     tie.close
-    (tie.spec returns flag-requires number-requires number-requires-2 same-length returns-2)
+    (tie.spec returns flag-requires number24-requires number24-requires-2 same-length returns-2)

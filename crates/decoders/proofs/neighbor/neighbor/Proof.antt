@@ -15,8 +15,8 @@ use Rattle.decoders.proofs.neighbor.neighbor.Tie as tie
 cast-t7 : tie.Need-cast-t7
 cast-t7 c = search needs
 
-one-number-requires : tie.Need-one-number-requires
-one-number-requires c κs = search needs
+one-number32-requires : tie.Need-one-number32-requires
+one-number32-requires c κs = search needs
 
 link-identifiers-requires : tie.Need-link-identifiers-requires
 link-identifiers-requires c κs = search needs
@@ -27,11 +27,11 @@ one-address-requires c κs = search needs
 one-address-requires-2 : tie.Need-one-address-requires-2
 one-address-requires-2 c κs = search needs
 
-one-number-requires-2 : tie.Need-one-number-requires-2
-one-number-requires-2 c κs = search needs
+one-number32-requires-2 : tie.Need-one-number32-requires-2
+one-number32-requires-2 c κs = search needs
 
-one-number-requires-3 : tie.Need-one-number-requires-3
-one-number-requires-3 c κs = search needs
+one-number32-requires-3 : tie.Need-one-number32-requires-3
+one-number32-requires-3 c κs = search needs
 
 unreserved-bandwidth-requires : tie.Need-unreserved-bandwidth-requires
 unreserved-bandwidth-requires c κs = search needs
@@ -42,8 +42,8 @@ one-address-requires-3 c κs = search needs
 one-address-requires-4 : tie.Need-one-address-requires-4
 one-address-requires-4 c κs = search needs
 
-one-number-requires-4 : tie.Need-one-number-requires-4
-one-number-requires-4 c κs = search needs
+one-number24-requires : tie.Need-one-number24-requires
+one-number24-requires c κs = search needs
 
 octet-and-sid-requires : tie.Need-octet-and-sid-requires
 octet-and-sid-requires c κs = search needs
@@ -57,21 +57,21 @@ flag-and-number-requires c κs = search needs
 min-max-delay-requires : tie.Need-min-max-delay-requires
 min-max-delay-requires c κs = search needs
 
-one-number-requires-5 : tie.Need-one-number-requires-5
-one-number-requires-5 c κs = search needs
+one-number24-requires-2 : tie.Need-one-number24-requires-2
+one-number24-requires-2 c κs = search needs
 
 flag-and-number-requires-2 : tie.Need-flag-and-number-requires-2
 flag-and-number-requires-2 c κs = search needs
 
-one-number-requires-6 : tie.Need-one-number-requires-6
-one-number-requires-6 c κs = search needs
+one-number32-requires-4 : tie.Need-one-number32-requires-4
+one-number32-requires-4 c κs = search needs
 
 same-length : tie.Need-same-length
 same-length c = search needs
 
 returns : tie.Need-returns
 unfolding usual fieldsOf table leastIn fieldsIn readingOf fieldsTrees fieldTrees taken fieldEnd _⧺_
-returns c = let g = c .before .before .before .before .before .before .before .args in let v = g .value .now in of-type 0 3 (g .kind) v (g .base .0) (c .before .before .before .before .match .keys1) (row-given 0 3 0 v (g .base .0) refl (c .before .before .one-number .ensures))
+returns c = let g = c .before .before .before .before .before .before .before .args in let v = g .value .now in of-type 0 3 (g .kind) v (g .base .0) (c .before .before .before .before .match .keys1) (row-given 0 3 0 v (g .base .0) refl (c .before .before .one-number32 .ensures))
 
 same-length-2 : tie.Need-same-length-2
 same-length-2 c = search needs
@@ -98,14 +98,14 @@ same-length-5 c = search needs
 
 returns-5 : tie.Need-returns-5
 unfolding usual fieldsOf table leastIn fieldsIn readingOf fieldsTrees fieldTrees taken fieldEnd _⧺_
-returns-5 c = let g = c .before .before .before .before .before .before .before .args in let v = g .value .now in of-type 0 9 (g .kind) v (g .base .0) (c .before .before .before .before .match .keys5) (row-given 0 9 0 v (g .base .0) refl (c .before .before .one-number2 .ensures))
+returns-5 c = let g = c .before .before .before .before .before .before .before .args in let v = g .value .now in of-type 0 9 (g .kind) v (g .base .0) (c .before .before .before .before .match .keys5) (row-given 0 9 0 v (g .base .0) refl (c .before .before .one-number322 .ensures))
 
 same-length-6 : tie.Need-same-length-6
 same-length-6 c = search needs
 
 returns-6 : tie.Need-returns-6
 unfolding usual fieldsOf table leastIn fieldsIn readingOf fieldsTrees fieldTrees taken fieldEnd _⧺_
-returns-6 c = let g = c .before .before .before .before .before .before .before .args in let v = g .value .now in of-type 0 10 (g .kind) v (g .base .0) (c .before .before .before .before .match .keys6) (row-given 0 10 0 v (g .base .0) refl (c .before .before .one-number3 .ensures))
+returns-6 c = let g = c .before .before .before .before .before .before .before .args in let v = g .value .now in of-type 0 10 (g .kind) v (g .base .0) (c .before .before .before .before .match .keys6) (row-given 0 10 0 v (g .base .0) refl (c .before .before .one-number323 .ensures))
 
 same-length-7 : tie.Need-same-length-7
 same-length-7 c = search needs
@@ -132,7 +132,7 @@ same-length-10 c = search needs
 
 returns-10 : tie.Need-returns-10
 unfolding usual fieldsOf table leastIn fieldsIn readingOf fieldsTrees fieldTrees taken fieldEnd _⧺_
-returns-10 c = let g = c .before .before .before .before .before .before .before .args in let v = g .value .now in of-type 0 18 (g .kind) v (g .base .0) (c .before .before .before .before .match .keys10) (row-given 0 18 0 v (g .base .0) refl (c .before .before .one-number4 .ensures))
+returns-10 c = let g = c .before .before .before .before .before .before .before .args in let v = g .value .now in of-type 0 18 (g .kind) v (g .base .0) (c .before .before .before .before .match .keys10) (row-given 0 18 0 v (g .base .0) refl (c .before .before .one-number24 .ensures))
 
 same-length-11 : tie.Need-same-length-11
 same-length-11 c = search needs
@@ -165,7 +165,7 @@ same-length-15 c = search needs
 
 returns-15 : tie.Need-returns-15
 unfolding usual fieldsOf table leastIn fieldsIn readingOf fieldsTrees fieldTrees taken fieldEnd _⧺_
-returns-15 c = let g = c .before .before .before .before .before .before .before .args in let v = g .value .now in of-type 0 35 (g .kind) v (g .base .0) (c .before .before .before .before .match .keys15) (row-given 0 35 0 v (g .base .0) refl (c .before .before .one-number5 .ensures))
+returns-15 c = let g = c .before .before .before .before .before .before .before .args in let v = g .value .now in of-type 0 35 (g .kind) v (g .base .0) (c .before .before .before .before .match .keys15) (row-given 0 35 0 v (g .base .0) refl (c .before .before .one-number242 .ensures))
 
 same-length-16 : tie.Need-same-length-16
 same-length-16 c = search needs
@@ -179,7 +179,7 @@ same-length-17 c = search needs
 
 returns-17 : tie.Need-returns-17
 unfolding usual fieldsOf table leastIn fieldsIn readingOf fieldsTrees fieldTrees taken fieldEnd _⧺_
-returns-17 c = let g = c .before .before .before .before .before .before .before .before .before .args in let v = g .value .now in let r = c .before .before .before .before .before .before .match .rest in reads-as (ap (readingOf 0 v (g .base .0)) (bandwidth-types (g .kind) v (past-36 (g .kind) (c .before .before .before .before .before .if1 .left) (r .0 .0 .0 .0 .0 .1) (r .0 .0 .0 .0 .1) (r .0 .0 .0 .1) (r .0 .0 .1) (r .0 .1) (r .1)) (c .before .before .before .before .if2 .taken))) (row-given 0 37 0 v (g .base .0) refl (c .before .before .one-number6 .ensures))
+returns-17 c = let g = c .before .before .before .before .before .before .before .before .before .args in let v = g .value .now in let r = c .before .before .before .before .before .before .match .rest in reads-as (ap (readingOf 0 v (g .base .0)) (bandwidth-types (g .kind) v (past-36 (g .kind) (c .before .before .before .before .before .if1 .left) (r .0 .0 .0 .0 .0 .1) (r .0 .0 .0 .0 .1) (r .0 .0 .0 .1) (r .0 .0 .1) (r .0 .1) (r .1)) (c .before .before .before .before .if2 .taken))) (row-given 0 37 0 v (g .base .0) refl (c .before .before .one-number324 .ensures))
 
 returns-18 : tie.Need-returns-18
 unfolding table
@@ -194,23 +194,23 @@ neighbor-spec =
     tie.close
     (tie.spec
     cast-t7
-    one-number-requires
+    one-number32-requires
     link-identifiers-requires
     one-address-requires
     one-address-requires-2
-    one-number-requires-2
-    one-number-requires-3
+    one-number32-requires-2
+    one-number32-requires-3
     unreserved-bandwidth-requires
     one-address-requires-3
     one-address-requires-4
-    one-number-requires-4
+    one-number24-requires
     octet-and-sid-requires
     lan-adj-sid-requires
     flag-and-number-requires
     min-max-delay-requires
-    one-number-requires-5
+    one-number24-requires-2
     flag-and-number-requires-2
-    one-number-requires-6
+    one-number32-requires-4
     same-length
     returns
     same-length-2

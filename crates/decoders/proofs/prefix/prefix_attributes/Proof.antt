@@ -16,8 +16,8 @@ returns : tie.Need-returns
 unfolding usual fieldsOf table leastIn fieldsIn
 returns c = let g = c .before .before .before .args in row-short 1 4 (g .source .registry) (g .value .now) (g .source .base .0) refl (c .if1 .taken)
 
-number-requires : tie.Need-number-requires
-number-requires c κs = search needs
+number8-requires : tie.Need-number8-requires
+number8-requires c κs = search needs
 
 flag-requires : tie.Need-flag-requires
 flag-requires c κs = search needs
@@ -33,14 +33,14 @@ same-length c = search needs
 
 returns-2 : tie.Need-returns-2
 unfolding usual fieldsOf table leastIn fieldsIn readingOf fieldsTrees fieldTrees taken fieldEnd _⧺_
-returns-2 c = let g = c .before .before .before .before .before .before .before .before .before .before .before .before .before .before .before .before .before .before .before .args in row-long 1 4 (g .source .registry) (g .value .now) (g .source .base .0) refl (c .before .before .before .before .before .before .before .before .before .before .before .before .before .before .before .before .if1 .left) (record { taken = refl; laid = laid-then (c .before .before .before .before .before .before .before .before .before .before .before .before .before .before .number .ensures) (laid-then (c .before .before .before .before .before .before .before .before .before .before .flag .ensures) (laid-then (c .before .before .before .before .before .before .flag2 .ensures) (c .before .before .flag3 .ensures))) })
+returns-2 c = let g = c .before .before .before .before .before .before .before .before .before .before .before .before .before .before .before .before .before .before .before .args in row-long 1 4 (g .source .registry) (g .value .now) (g .source .base .0) refl (c .before .before .before .before .before .before .before .before .before .before .before .before .before .before .before .before .if1 .left) (record { taken = refl; laid = laid-then (c .before .before .before .before .before .before .before .before .before .before .before .before .before .before .number8 .ensures) (laid-then (c .before .before .before .before .before .before .before .before .before .before .flag .ensures) (laid-then (c .before .before .before .before .before .before .flag2 .ensures) (c .before .before .flag3 .ensures))) })
 
 pub prefix-attributes-spec : {M : Type 1} → statement M
 prefix-attributes-spec =
     tie.close
     (tie.spec
     returns
-    number-requires
+    number8-requires
     flag-requires
     flag-requires-2
     flag-requires-3

@@ -24,8 +24,8 @@ returns : tie.Need-returns
 unfolding usual fieldsOf table leastIn fieldsIn
 returns c = let g = c .before .before .before .args in row-short 2 2 (g .source .registry) (g .value .now) (g .source .base .0) refl (c .if1 .taken)
 
-number-requires : tie.Need-number-requires
-number-requires c κs = search needs
+number8-requires : tie.Need-number8-requires
+number8-requires c κs = search needs
 
 add-ranges : tie.Need-add-ranges
 add-ranges c = search needs
@@ -37,7 +37,7 @@ part-ranges-end : tie.Need-part-ranges-end
 part-ranges-end c = search needs
 
 ranges-requires : tie.Need-ranges-requires
-ranges-requires c κs = let v = c .before .before .before .before .before .before .before .before .before .before .args .value .now in rw (part-rest 1 v) (omega (arith, length-drop 1 v, c .before .before .before .before .before .number .ensures .place))
+ranges-requires c κs = let v = c .before .before .before .before .before .before .before .before .before .before .args .value .now in rw (part-rest 1 v) (omega (arith, length-drop 1 v, c .before .before .before .before .before .number8 .ensures .place))
 
 add-t15 : tie.Need-add-t15
 add-t15 c = let v = c .before .before .before .before .before .before .before .before .before .before .before .before .before .before .args .value .now in omega (arith, (rw (part-rest 1 v) at (c .before .before .before .ranges .ensures)) .covers, total-le rangeLength range-fits (drop 1 v), length-drop 1 v)
@@ -47,14 +47,14 @@ same-length c = search needs
 
 returns-2 : tie.Need-returns-2
 unfolding usual fieldsOf table leastIn fieldsIn readingOf fieldsTrees fieldTrees taken fieldEnd _⧺_ arrayOf
-returns-2 c = let g = c .before .before .before .before .before .before .before .before .before .before .before .before .before .before .args in let x = rw (part-rest 1 (g .value .now)) at (c .before .before .before .ranges .ensures) in row-long 2 2 (g .source .registry) (g .value .now) (g .source .base .0) refl (c .before .before .before .before .before .before .before .before .before .before .before .if1 .left) (record { taken = ap (λ (n : ℕ). Octets (1 + n)) (x .covers); laid = laid-then (c .before .before .before .before .before .before .before .before .before .number .ensures) (x .laid) })
+returns-2 c = let g = c .before .before .before .before .before .before .before .before .before .before .before .before .before .before .args in let x = rw (part-rest 1 (g .value .now)) at (c .before .before .before .ranges .ensures) in row-long 2 2 (g .source .registry) (g .value .now) (g .source .base .0) refl (c .before .before .before .before .before .before .before .before .before .before .before .if1 .left) (record { taken = ap (λ (n : ℕ). Octets (1 + n)) (x .covers); laid = laid-then (c .before .before .before .before .before .before .before .before .before .number8 .ensures) (x .laid) })
 
 pub flags-and-ranges-spec : {M : Type 1} → statement M
 flags-and-ranges-spec =
     tie.close
     (tie.spec
     returns
-    number-requires
+    number8-requires
     add-ranges
     part-ranges-start
     part-ranges-end

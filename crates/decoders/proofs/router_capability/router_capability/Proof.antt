@@ -35,8 +35,8 @@ flags-and-ranges-requires-2 c κs = search needs
 node-msd-requires : tie.Need-node-msd-requires
 node-msd-requires c κs = search needs
 
-one-number-requires : tie.Need-one-number-requires
-one-number-requires c κs = search needs
+preference-requires : tie.Need-preference-requires
+preference-requires c κs = search needs
 
 same-length : tie.Need-same-length
 same-length c = search needs
@@ -82,8 +82,7 @@ same-length-7 : tie.Need-same-length-7
 same-length-7 c = search needs
 
 returns-7 : tie.Need-returns-7
-unfolding usual fieldsOf table leastIn fieldsIn readingOf fieldsTrees fieldTrees taken fieldEnd _⧺_
-returns-7 c = let g = c .before .before .before .before .before .before .before .args in let v = g .value .now in of-type 2 24 (g .kind) v (g .base .0) (c .before .before .before .before .match .keys7) (row-given 2 24 2 v (g .base .0) refl (c .before .before .one-number .ensures))
+returns-7 c = let g = c .before .before .before .before .before .before .before .args in let v = g .value .now in of-type 2 24 (g .kind) v (g .base .0) (c .before .before .before .before .match .keys7) (c .before .before .preference .ensures)
 
 returns-8 : tie.Need-returns-8
 unfolding table
@@ -100,7 +99,7 @@ router-capability-spec =
     number-array-requires
     flags-and-ranges-requires-2
     node-msd-requires
-    one-number-requires
+    preference-requires
     same-length
     returns
     same-length-2

@@ -14,11 +14,11 @@ use Rattle.decoders.proofs.rows.octet_and_sid.Tie as tie
 returns : tie.Need-returns
 returns c = rw (lt-leb _ _ (c .if1 .taken)) reads-nothing
 
-number-requires : tie.Need-number-requires
-number-requires c κs = search needs
+number8-requires : tie.Need-number8-requires
+number8-requires c κs = search needs
 
-number-requires-2 : tie.Need-number-requires-2
-number-requires-2 c κs = search needs
+number8-requires-2 : tie.Need-number8-requires-2
+number8-requires-2 c κs = search needs
 
 sid-requires : tie.Need-sid-requires
 sid-requires c κs = search needs
@@ -27,9 +27,9 @@ same-length : tie.Need-same-length
 same-length c = search needs
 
 returns-2 : tie.Need-returns-2
-returns-2 c = let g = c .before .before .before .before .before .before .before .before .before .before .before .before .before .before .before .before .args in let x = shown-sid (g .value .now) 2 Label.sid (g .source .registry) (g .source .base .0) (omega arith) (c .before .before .before .sid .ensures) in rw (le-leb _ _ (c .before .before .before .before .before .before .before .before .before .before .before .before .before .if1 .left)) (record { taken = ap Octets (x .covers); laid = laid-then (c .before .before .before .before .before .before .before .before .before .before .before .number .ensures) (laid-then (c .before .before .before .before .before .before .before .number2 .ensures) (laid-then (x .laid) laid-none)) })
+returns-2 c = let g = c .before .before .before .before .before .before .before .before .before .before .before .before .before .before .before .before .args in let x = shown-sid (g .value .now) 2 Label.sid (g .source .registry) (g .source .base .0) (omega arith) (c .before .before .before .sid .ensures) in rw (le-leb _ _ (c .before .before .before .before .before .before .before .before .before .before .before .before .before .if1 .left)) (record { taken = ap Octets (x .covers); laid = laid-then (c .before .before .before .before .before .before .before .before .before .before .before .number8 .ensures) (laid-then (c .before .before .before .before .before .before .before .number82 .ensures) (laid-then (x .laid) laid-none)) })
 
 pub octet-and-sid-spec : {M : Type 1} → statement M
 octet-and-sid-spec =
     tie.close
-    (tie.spec returns number-requires number-requires-2 sid-requires same-length returns-2)
+    (tie.spec returns number8-requires number8-requires-2 sid-requires same-length returns-2)

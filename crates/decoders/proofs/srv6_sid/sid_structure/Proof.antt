@@ -16,33 +16,33 @@ returns : tie.Need-returns
 unfolding usual fieldsOf table leastIn fieldsIn
 returns c = let g = c .before .before .before .args in row-short 4 1 (g .source .registry) (g .value .now) (g .source .base .0) refl (c .if1 .taken)
 
-number-requires : tie.Need-number-requires
-number-requires c κs = search needs
+number8-requires : tie.Need-number8-requires
+number8-requires c κs = search needs
 
-number-requires-2 : tie.Need-number-requires-2
-number-requires-2 c κs = search needs
+number8-requires-2 : tie.Need-number8-requires-2
+number8-requires-2 c κs = search needs
 
-number-requires-3 : tie.Need-number-requires-3
-number-requires-3 c κs = search needs
+number8-requires-3 : tie.Need-number8-requires-3
+number8-requires-3 c κs = search needs
 
-number-requires-4 : tie.Need-number-requires-4
-number-requires-4 c κs = search needs
+number8-requires-4 : tie.Need-number8-requires-4
+number8-requires-4 c κs = search needs
 
 same-length : tie.Need-same-length
 same-length c = search needs
 
 returns-2 : tie.Need-returns-2
 unfolding usual fieldsOf table leastIn fieldsIn readingOf fieldsTrees fieldTrees taken fieldEnd _⧺_
-returns-2 c = let g = c .before .before .before .before .before .before .before .before .before .before .before .before .before .before .before .before .before .before .before .args in row-long 4 1 (g .source .registry) (g .value .now) (g .source .base .0) refl (c .before .before .before .before .before .before .before .before .before .before .before .before .before .before .before .before .if1 .left) (record { taken = refl; laid = laid-then (c .before .before .before .before .before .before .before .before .before .before .before .before .before .before .number .ensures) (laid-then (c .before .before .before .before .before .before .before .before .before .before .number2 .ensures) (laid-then (c .before .before .before .before .before .before .number3 .ensures) (c .before .before .number4 .ensures))) })
+returns-2 c = let g = c .before .before .before .before .before .before .before .before .before .before .before .before .before .before .before .before .before .before .before .args in row-long 4 1 (g .source .registry) (g .value .now) (g .source .base .0) refl (c .before .before .before .before .before .before .before .before .before .before .before .before .before .before .before .before .if1 .left) (record { taken = refl; laid = laid-then (c .before .before .before .before .before .before .before .before .before .before .before .before .before .before .number8 .ensures) (laid-then (c .before .before .before .before .before .before .before .before .before .before .number82 .ensures) (laid-then (c .before .before .before .before .before .before .number83 .ensures) (c .before .before .number84 .ensures))) })
 
 pub sid-structure-spec : {M : Type 1} → statement M
 sid-structure-spec =
     tie.close
     (tie.spec
     returns
-    number-requires
-    number-requires-2
-    number-requires-3
-    number-requires-4
+    number8-requires
+    number8-requires-2
+    number8-requires-3
+    number8-requires-4
     same-length
     returns-2)

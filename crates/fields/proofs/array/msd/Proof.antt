@@ -8,11 +8,11 @@ use Rattle.fields.proofs.array.msd.Tie as tie
 add-t8 : tie.Need-add-t8
 add-t8 c = search needs
 
-number-requires : tie.Need-number-requires
-number-requires c κs = search needs
+number8-requires : tie.Need-number8-requires
+number8-requires c κs = search needs
 
-number-requires-2 : tie.Need-number-requires-2
-number-requires-2 c κs = search needs
+number8-requires-2 : tie.Need-number8-requires-2
+number8-requires-2 c κs = search needs
 
 container-requires : tie.Need-container-requires
 container-requires c κs = search needs
@@ -21,9 +21,9 @@ same-length : tie.Need-same-length
 same-length c = search needs
 
 returns : tie.Need-returns
-returns c = msd-made _ _ _ (c .before .before .before .before .before .before .before .before .before .before .number .ensures) (c .before .before .before .before .before .before .number2 .ensures) (c .before .before .container .ensures)
+returns c = msd-made _ _ _ (c .before .before .before .before .before .before .before .before .before .before .number8 .ensures) (c .before .before .before .before .before .before .number82 .ensures) (c .before .before .container .ensures)
 
 pub msd-spec : {M : Type 1} → statement M
 msd-spec =
     tie.close
-    (tie.spec add-t8 number-requires number-requires-2 container-requires same-length returns)
+    (tie.spec add-t8 number8-requires number8-requires-2 container-requires same-length returns)

@@ -8,8 +8,8 @@ use Rattle.fields.proofs.array.range.Tie as tie
 add-t10 : tie.Need-add-t10
 add-t10 c = search needs
 
-number-requires : tie.Need-number-requires
-number-requires c κs = search needs
+number24-requires : tie.Need-number24-requires
+number24-requires c κs = search needs
 
 sid-requires : tie.Need-sid-requires
 sid-requires c κs = search needs
@@ -21,9 +21,9 @@ same-length : tie.Need-same-length
 same-length c = search needs
 
 returns : tie.Need-returns
-returns c = range-made _ _ _ (c .before .before .before .before .before .before .before .before .before .before .before .before .before .before .before .before .pre .0) (c .before .before .before .before .before .before .before .before .before .before .before .number .ensures) (c .before .before .before .before .before .before .before .sid .ensures .laid) (c .before .before .container .ensures)
+returns c = range-made _ _ _ (c .before .before .before .before .before .before .before .before .before .before .before .before .before .before .before .before .pre .0) (c .before .before .before .before .before .before .before .before .before .before .before .number24 .ensures) (c .before .before .before .before .before .before .before .sid .ensures .laid) (c .before .before .container .ensures)
 
 pub range-spec : {M : Type 1} → statement M
 range-spec =
     tie.close
-    (tie.spec add-t10 number-requires sid-requires container-requires same-length returns)
+    (tie.spec add-t10 number24-requires sid-requires container-requires same-length returns)

@@ -1,4 +1,4 @@
--- Inside the tape six words are written; the two ways out of it write nothing.
+-- Inside the tape six words are written; outside of it, nothing.
 use native.Mathlib.Omega.{arith}
 use lib.ListN.{length-set}
 use Rattle.tape.specs.TapeLaws.{put-inside, put-outside}
@@ -11,6 +11,9 @@ mul-b c = search needs
 
 add-b : tie.Need-add-b
 add-b c = search needs
+
+add-if1 : tie.Need-add-if1
+add-if1 c = search needs
 
 mul-tape : tie.Need-mul-tape
 mul-tape c = search needs
@@ -64,7 +67,7 @@ slice-write-tape-6 : tie.Need-slice-write-tape-6
 slice-write-tape-6 c = simp length-set (omega arith)
 
 same-length : tie.Need-same-length
-same-length c = simp length-set
+same-length c = simp length-set (omega arith)
 
 returns : tie.Need-returns
 returns c = put-inside _ _ _ (omega arith)
@@ -72,15 +75,13 @@ returns c = put-inside _ _ _ (omega arith)
 returns-2 : tie.Need-returns-2
 returns-2 c = put-outside _ _ _ (omega arith)
 
-returns-3 : tie.Need-returns-3
-returns-3 c = put-outside _ _ _ (omega arith)
-
 pub put-spec : {M : Type 1} → statement M
 put-spec =
     tie.close
     (tie.spec
     mul-b
     add-b
+    add-if1
     mul-tape
     slice-write-tape
     add-tape
@@ -100,5 +101,4 @@ put-spec =
     slice-write-tape-6
     same-length
     returns
-    returns-2
-    returns-3)
+    returns-2)

@@ -18,11 +18,11 @@ use Rattle.walk.proofs.+decode+decode_neighbor+decode_prefix+decode_rou
 use Rattle.walk.proofs.+decode+decode_neighbor+decode_prefix+decode_router_capability+entry+push+tail+walk.Lts-decode_router_capability as decode-router-capability-lts
 use Rattle.walk.proofs.decode_router_capability.Reads as decode-router-capability
 use Rattle.walk.proofs.push.Reads as push
-use Rattle.fields.proofs.part.number.Reads as part-number-reads
+use Rattle.fields.proofs.part.number16.Reads as number16-reads
 use Rattle.decoders.proofs.router_capability.router_capability.Reads as router-capability-reads
 
 abbrev pub callees : ℕ → decode-router-capability-lts.Claims
-callees t = (part-number-reads.Asked, part-number-reads.Learnt, push-below t, push.Post, router-capability-reads.Asked, router-capability-reads.Learnt)
+callees t = (number16-reads.Asked, number16-reads.Learnt, push-below t, push.Post, router-capability-reads.Asked, router-capability-reads.Learnt)
 
 pub cast-t11 : (t : ℕ) → decode-router-capability-lts.Need-cast-t11 (callees t) (decode-router-capability-at t) decode-router-capability.Post
 cast-t11 t c = omega arith
@@ -31,8 +31,8 @@ pub returns : (t : ℕ) → decode-router-capability-lts.Need-returns (callees t
 unfolding usual fieldsOf table leastIn fieldsIn
 returns t c = let g = c .before .before .before .before .args in let v = g .value .now in let b = g .base .0 in of-type 2 25 (g .kind) v b (c .before .match .keys1) (row-short 2 25 2 v b refl (c .if1 .taken))
 
-pub number-requires : (t : ℕ) → decode-router-capability-lts.Need-number-requires (callees t) (decode-router-capability-at t) decode-router-capability.Post
-number-requires t c κs = (refl, omega arith, omega arith, omega arith)
+pub number16-requires : (t : ℕ) → decode-router-capability-lts.Need-number16-requires (callees t) (decode-router-capability-at t) decode-router-capability.Post
+number16-requires t c κs = omega arith
 
 pub part-push-start : (t : ℕ) → decode-router-capability-lts.Need-part-push-start (callees t) (decode-router-capability-at t) decode-router-capability.Post
 part-push-start t c = omega arith
@@ -45,7 +45,7 @@ add-t21 t c = omega arith
 
 pub push-requires : (t : ℕ) → decode-router-capability-lts.Need-push-requires (callees t) (decode-router-capability-at t) decode-router-capability.Post
 unfolding usual fieldsOf table leastIn fieldsIn readingOf fieldsTrees fieldTrees taken fieldEnd _⧺_
-push-requires t c κs = let g = c .before .before .before .before .before .before .before .before .before .before .before .args in let v = g .value .now in let b = g .base .0 in (rw (part-rest 2 v) (omega (arith, length-drop 2 v)), behind-room 2 v b 2 (omega arith) (nested-room 25 2 v b refl (c .before .before .before .before .before .before .before .if1 .left) (numberAt 44 1 0 2 2 v b) (push 2) refl (rw (c .before .before .before .before .before .before .before .before .match .keys1) at (c .before .before .before .before .before .before .before .before .before .before .before .pre .1)) (c .before .before .before .before .before .number .ensures .place)))
+push-requires t c κs = let g = c .before .before .before .before .before .before .before .before .before .before .before .args in let v = g .value .now in let b = g .base .0 in (rw (part-rest 2 v) (omega (arith, length-drop 2 v)), behind-room 2 v b 2 (omega arith) (nested-room 25 2 v b refl (c .before .before .before .before .before .before .before .if1 .left) (numberAt 44 1 0 2 2 v b) (push 2) refl (rw (c .before .before .before .before .before .before .before .before .match .keys1) at (c .before .before .before .before .before .before .before .before .before .before .before .pre .1)) (c .before .before .before .before .before .number16 .ensures .place)))
 
 pub router-capability-requires : (t : ℕ) → decode-router-capability-lts.Need-router-capability-requires (callees t) (decode-router-capability-at t) decode-router-capability.Post
 router-capability-requires t c κs = (c .before .match .rest .1, omega arith, omega arith)
@@ -55,7 +55,7 @@ same-length t c = omega arith
 
 pub returns-2 : (t : ℕ) → decode-router-capability-lts.Need-returns-2 (callees t) (decode-router-capability-at t) decode-router-capability.Post
 unfolding usual fieldsOf table leastIn fieldsIn readingOf fieldsTrees fieldTrees taken fieldEnd _⧺_
-returns-2 t c = let g = c .before .before .before .before .before .before .before .before .before .before .before .before .before .before .before .args in let v = g .value .now in let b = g .base .0 in of-type 2 25 (g .kind) v b (c .before .before .before .before .before .before .before .before .before .before .before .before .match .keys1) (nested-made 25 2 v b refl (c .before .before .before .before .before .before .before .before .before .before .before .if1 .left) (numberAt 44 1 0 2 2 v b) (push 2) refl (c .before .before .before .before .before .before .before .before .before .number .ensures) (behind-made 2 v b 2 (c .before .before .before .push .ensures) refl refl))
+returns-2 t c = let g = c .before .before .before .before .before .before .before .before .before .before .before .before .before .before .before .args in let v = g .value .now in let b = g .base .0 in of-type 2 25 (g .kind) v b (c .before .before .before .before .before .before .before .before .before .before .before .before .match .keys1) (nested-made 25 2 v b refl (c .before .before .before .before .before .before .before .before .before .before .before .if1 .left) (numberAt 44 1 0 2 2 v b) (push 2) refl (c .before .before .before .before .before .before .before .before .before .number16 .ensures) (behind-made 2 v b 2 (c .before .before .before .push .ensures) refl refl))
 
 pub same-length-2 : (t : ℕ) → decode-router-capability-lts.Need-same-length-2 (callees t) (decode-router-capability-at t) decode-router-capability.Post
 same-length-2 t c = search needs

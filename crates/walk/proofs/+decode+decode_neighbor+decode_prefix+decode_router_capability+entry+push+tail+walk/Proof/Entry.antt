@@ -12,13 +12,13 @@ use Rattle.walk.proofs.+decode+decode_neighbor+decode_prefix+decode_rou
 use Rattle.walk.proofs.+decode+decode_neighbor+decode_prefix+decode_router_capability+entry+push+tail+walk.Lts-entry as entry-lts
 use Rattle.walk.proofs.decode.Reads as decode
 use Rattle.walk.proofs.entry.Reads as entry
-use Rattle.registry.proofs.Registry.number.Reads as Registry-number-reads
 use Rattle.fields.proofs.array.container.Reads as container-reads
-use Rattle.fields.proofs.part.number.Reads as part-number-reads
+use Rattle.registry.proofs.Registry.number.Reads as number-reads
+use Rattle.fields.proofs.part.number8.Reads as number8-reads
 use Rattle.walk.proofs.rest.Reads as rest-reads
 
 abbrev pub callees : ℕ → entry-lts.Claims
-callees t = (Registry-number-reads.Asked, Registry-number-reads.Learnt, part-number-reads.Asked, part-number-reads.Learnt, decode-below t, decode.Post, rest-reads.Asked, rest-reads.Learnt, container-reads.Asked, container-reads.Learnt)
+callees t = (number-reads.Asked, number-reads.Learnt, number8-reads.Asked, number8-reads.Learnt, decode-below t, decode.Post, rest-reads.Asked, rest-reads.Learnt, container-reads.Asked, container-reads.Learnt)
 
 pub number-requires : (t : ℕ) → entry-lts.Need-number-requires (callees t) (entry-at t) entry.Post
 number-requires t c κs = search needs
@@ -32,11 +32,11 @@ add-value t c = omega arith
 pub add-value-2 : (t : ℕ) → entry-lts.Need-add-value-2 (callees t) (entry-at t) entry.Post
 add-value-2 t c = omega arith
 
-pub number-requires-2 : (t : ℕ) → entry-lts.Need-number-requires-2 (callees t) (entry-at t) entry.Post
-number-requires-2 t c κs = (refl, omega arith, omega arith, omega arith)
+pub number8-requires : (t : ℕ) → entry-lts.Need-number8-requires (callees t) (entry-at t) entry.Post
+number8-requires t c κs = omega arith
 
-pub number-requires-3 : (t : ℕ) → entry-lts.Need-number-requires-3 (callees t) (entry-at t) entry.Post
-number-requires-3 t c κs = (refl, omega arith, omega arith, omega arith)
+pub number8-requires-2 : (t : ℕ) → entry-lts.Need-number8-requires-2 (callees t) (entry-at t) entry.Post
+number8-requires-2 t c κs = omega arith
 
 pub sub-value : (t : ℕ) → entry-lts.Need-sub-value (callees t) (entry-at t) entry.Post
 sub-value t c = omega arith
@@ -51,10 +51,10 @@ pub shared-slice-read-decode : (t : ℕ) → entry-lts.Need-shared-slice-read-de
 shared-slice-read-decode t c = omega arith
 
 pub decode-requires : (t : ℕ) → entry-lts.Need-decode-requires (callees t) (entry-at t) entry.Post
-decode-requires t c κs = let g = c .before .before .before .before .before .before .before .before .before .before .before .before .before .before .before .before .args in let e = g .octets .now in let r = entry-room (numberOf (g .registry)) e (g .base .0) {third = c .before .before .before .before .before .number3 .result .0} (c .before .before .before .before .before .before .before .before .before .before .before .before .before .before .before .before .pre .1 .0) (c .before .before .before .before .before .before .before .before .before .before .before .before .before .before .before .before .pre .1 .1) (omega (arith, c .before .before .before .before .before .number3 .ensures .place, c .before .before .before .before .before .before .before .before .before .number2 .ensures .place)) in rw (part-rest 2 e) (omega (arith, length-drop 2 e), r)
+decode-requires t c κs = let g = c .before .before .before .before .before .before .before .before .before .before .before .before .before .before .before .before .args in let e = g .octets .now in let r = entry-room (numberOf (g .registry)) e (g .base .0) {third = c .before .before .before .before .before .number82 .result .0} (c .before .before .before .before .before .before .before .before .before .before .before .before .before .before .before .before .pre .1 .0) (c .before .before .before .before .before .before .before .before .before .before .before .before .before .before .before .before .pre .1 .1) (omega (arith, c .before .before .before .before .before .number82 .ensures .place, c .before .before .before .before .before .before .before .before .before .number8 .ensures .place)) in rw (part-rest 2 e) (omega (arith, length-drop 2 e), r)
 
 pub rest-requires : (t : ℕ) → entry-lts.Need-rest-requires (callees t) (entry-at t) entry.Post
-rest-requires t c κs = let g = c .before .before .before .before .before .before .before .before .before .before .before .before .before .before .before .before .before .before .before .before .before .args in let e = g .octets .now in let r = entry-room (numberOf (g .registry)) e (g .base .0) {third = c .before .before .before .before .before .before .before .before .before .before .number3 .result .0} (c .before .before .before .before .before .before .before .before .before .before .before .before .before .before .before .before .before .before .before .before .before .pre .1 .0) (c .before .before .before .before .before .before .before .before .before .before .before .before .before .before .before .before .before .before .before .before .before .pre .1 .1) (omega (arith, c .before .before .before .before .before .before .before .before .before .before .number3 .ensures .place, c .before .before .before .before .before .before .before .before .before .before .before .before .before .before .number2 .ensures .place)) in let d = rw (part-rest 2 e) at (c .before .before .before .before .decode .ensures) in rw (part-rest 2 e) (omega (arith, r .octet, r .position, d .laid .place))
+rest-requires t c κs = let g = c .before .before .before .before .before .before .before .before .before .before .before .before .before .before .before .before .before .before .before .before .before .args in let e = g .octets .now in let r = entry-room (numberOf (g .registry)) e (g .base .0) {third = c .before .before .before .before .before .before .before .before .before .before .number82 .result .0} (c .before .before .before .before .before .before .before .before .before .before .before .before .before .before .before .before .before .before .before .before .before .pre .1 .0) (c .before .before .before .before .before .before .before .before .before .before .before .before .before .before .before .before .before .before .before .before .before .pre .1 .1) (omega (arith, c .before .before .before .before .before .before .before .before .before .before .number82 .ensures .place, c .before .before .before .before .before .before .before .before .before .before .before .before .before .before .number8 .ensures .place)) in let d = rw (part-rest 2 e) at (c .before .before .before .before .decode .ensures) in rw (part-rest 2 e) (omega (arith, r .octet, r .position, d .laid .place))
 
 pub container-requires : (t : ℕ) → entry-lts.Need-container-requires (callees t) (entry-at t) entry.Post
 container-requires t c κs = omega (arith, c .before .before .before .before .before .before .before .before .before .before .before .before .before .before .before .before .before .before .before .before .before .before .before .before .before .pre .1 .1 .octet, c .before .before .before .before .before .before .before .before .before .before .before .before .before .before .before .before .before .before .before .before .before .before .before .before .before .pre .1 .1 .position)
@@ -63,4 +63,4 @@ pub same-length : (t : ℕ) → entry-lts.Need-same-length (callees t) (entry-at
 same-length t c = omega arith
 
 pub returns : (t : ℕ) → entry-lts.Need-returns (callees t) (entry-at t) entry.Post
-returns t c = let g = c .before .before .before .before .before .before .before .before .before .before .before .before .before .before .before .before .before .before .before .before .before .before .before .before .before .before .before .before .args in let e = g .octets .now in entry-made (numberOf (g .registry)) e (g .base .0) (c .before .before .before .before .before .before .before .before .before .before .before .before .before .before .before .before .before .before .before .before .before .before .before .before .before .number .result) (c .before .before .before .before .before .before .before .before .before .before .before .before .before .before .before .before .before .before .before .before .before .before .before .before .before .number .ensures) (c .before .before .before .before .before .before .before .before .before .before .before .before .before .before .before .before .before .before .before .before .before .number2 .ensures) (c .before .before .before .before .before .before .before .before .before .before .before .before .before .before .before .before .before .number3 .ensures) (rw (part-rest 2 e) at (c .before .before .before .before .before .before .before .before .before .before .before .decode .ensures)) (rw (part-rest 2 e) at (c .before .before .before .before .before .before .rest .ensures)) (c .before .before .container .ensures)
+returns t c = let g = c .before .before .before .before .before .before .before .before .before .before .before .before .before .before .before .before .before .before .before .before .before .before .before .before .before .before .before .before .args in let e = g .octets .now in entry-made (numberOf (g .registry)) e (g .base .0) (c .before .before .before .before .before .before .before .before .before .before .before .before .before .before .before .before .before .before .before .before .before .before .before .before .before .number .result) (c .before .before .before .before .before .before .before .before .before .before .before .before .before .before .before .before .before .before .before .before .before .before .before .before .before .number .ensures) (c .before .before .before .before .before .before .before .before .before .before .before .before .before .before .before .before .before .before .before .before .before .number8 .ensures) (c .before .before .before .before .before .before .before .before .before .before .before .before .before .before .before .before .before .number82 .ensures) (rw (part-rest 2 e) at (c .before .before .before .before .before .before .before .before .before .before .before .decode .ensures)) (rw (part-rest 2 e) at (c .before .before .before .before .before .before .rest .ensures)) (c .before .before .container .ensures)

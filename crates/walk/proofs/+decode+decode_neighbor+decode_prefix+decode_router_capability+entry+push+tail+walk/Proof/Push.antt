@@ -10,11 +10,11 @@ use Rattle.walk.proofs.+decode+decode_neighbor+decode_prefix+decode_rou
 use Rattle.walk.proofs.+decode+decode_neighbor+decode_prefix+decode_router_capability+entry+push+tail+walk.Lts-push as push-lts
 use Rattle.walk.proofs.push.Reads as push
 use Rattle.walk.proofs.walk.Reads as walk
-use Rattle.registry.proofs.Registry.number.Reads as Registry-number-reads
+use Rattle.registry.proofs.Registry.number.Reads as number-reads
 use Rattle.walk.proofs.raw.Reads as raw-reads
 
 abbrev pub callees : ℕ → push-lts.Claims
-callees t = (walk-below t, walk.Post, Registry-number-reads.Asked, Registry-number-reads.Learnt, raw-reads.Asked, raw-reads.Learnt)
+callees t = (walk-below t, walk.Post, number-reads.Asked, number-reads.Learnt, raw-reads.Asked, raw-reads.Learnt)
 
 pub walk-requires : (t : ℕ) → push-lts.Need-walk-requires (callees t) (push-at t) push.Post
 walk-requires t c κs = let g = c .before .before .before .args in (omega arith, push-room (numberOf (g .registry)) (g .area .now) (g .base .0) (c .before .before .before .pre .1))

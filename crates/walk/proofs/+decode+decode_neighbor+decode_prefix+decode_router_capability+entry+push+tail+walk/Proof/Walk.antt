@@ -19,11 +19,11 @@ use Rattle.walk.proofs.+decode+decode_neighbor+decode_prefix+decode_rou
 use Rattle.walk.proofs.+decode+decode_neighbor+decode_prefix+decode_router_capability+entry+push+tail+walk.Lts-walk as walk-lts
 use Rattle.walk.proofs.entry.Reads as entry
 use Rattle.walk.proofs.walk.Reads as walk
-use Rattle.registry.proofs.Registry.number.Reads as Registry-number-reads
 use Rattle.fields.proofs.array.container.Reads as container-reads
+use Rattle.registry.proofs.Registry.number.Reads as number-reads
 
 abbrev pub callees : ℕ → walk-lts.Claims
-callees t = (entry-below t, entry.Post, Registry-number-reads.Asked, Registry-number-reads.Learnt, container-reads.Asked, container-reads.Learnt)
+callees t = (entry-below t, entry.Post, number-reads.Asked, number-reads.Learnt, container-reads.Asked, container-reads.Learnt)
 
 abbrev pub Inv-loop : walk-lts.InvT-loop
 Inv-loop area base registry tape₀ at n pos₀ next₀ tape pos next = Cutting entryLength (entryTrees usual (walked usual) (numberOf registry)) (base .0) area tape₀ tape (at .0 + 1) pos (next .0)
