@@ -1,7 +1,7 @@
 -- Room for a call, and its cases.
 use mathlib.Core.Path.{_≡_, refl, sym, ap, _∙_}
 use mathlib.Core.List.{List}
-use Prim.Native.Nat.{ℕ, _+_, _^_, _≤_, _<_}
+use Prim.Native.Nat.{ℕ, _+_, _*_, _-_, _/_, _^_, _≤_, _<_}
 use native.Mathlib.Omega.{arith}
 use lib.ListN.{length}
 use Rattle.meaning.specs.Table.{usual}
@@ -15,11 +15,14 @@ use Rattle.registry.specs.declared.Found.the-variants.{Known, Unknown}
 use Rattle.registry.specs.declared.Registry.{Registry}
 use Rattle.tape.specs.Tape.{used, withUsed, store}
 use Rattle.tape.specs.Forest.{Forest, size, flat}
-use Rattle.meaning.specs.Value.{Walk}
+use Rattle.meaning.specs.Value.{Walk as Shows′}
 use Rattle.meaning.specs.AreaCall.{appended, shown, callIn, areaCall}
 use Rattle.fields.specs.Shows.{Shows}
 use Rattle.fields.specs.declared.Shown.{Shown}
 use Rattle.walk.specs.Rest.{Room}
+use Rattle.subtlv.specs.Call.{shownBy}
+use Rattle.subtlv.specs.declared.Call.{Call}
+use Rattle.subtlv.specs.declared.Call.the-variants.{Walk, Push}
 
 -- an area that the checks 2 and 3 let pass
 module _ (k : ℕ) (area : List ℕ) (base at : ℕ) (short : length area ≤ 65535) (near : base + length area ≤ 4294967295) (low : at < 2 ^ 58) where
@@ -31,9 +34,14 @@ module _ (k : ℕ) (area : List ℕ) (base at : ℕ) (short : length area ≤ 65
   pub push-room : Room (pushed usual k area base) (length area) base at
   push-room = record { octet = omega arith; position = omega (arith, needed-pushed usual usual-sparing k area base) }
 
+-- needed is at most 1 + floor(7n / 3)
+pub most : (call : Call) (k : ℕ) (area : List ℕ) (base : ℕ) → size (shownBy call k area base) ≤ 1 + 7 * length area / 3
+most Walk = needed-walked usual usual-sparing
+most Push = needed-pushed usual usual-sparing
+
 -- registries
 
-module _ (shows : Walk) (n : ℕ) (area : List ℕ) (base : ℕ) (t : List ℕ) where
+module _ (shows : Shows′) (n : ℕ) (area : List ℕ) (base : ℕ) (t : List ℕ) where
   -- a number that no registry has
   pub call-unknown : registryOf n ≡ Unknown → areaCall shows n area base t ≡ refusal 1 t
   unfolding callIn
@@ -44,9 +52,10 @@ module _ (shows : Walk) (n : ℕ) (area : List ℕ) (base : ℕ) (t : List ℕ) 
   call-known {registry} known = rw (known, registryOf-number registry)
 
 -- what was laid behind the used records, and is counted now
-pub appended-made : (octets : ℕ) (trees : Forest) (t : List ℕ) {u w : List ℕ} {at n : ℕ} {s : Shown} → at ≡ used t → n ≡ size trees → Shows octets trees t u at s → w ≡ withUsed (s .next .0) u
+pub appended-made : (octets : ℕ) (trees : Forest) (t : List ℕ) {u w : List ℕ} {at n : ℕ} {s : Shown} → at ≡ used t → n ≡ s .next .0 - at → Shows octets trees t u at s → w ≡ withUsed (s .next .0) u
     → Gives (shown octets trees t) (record { answer = 0; covered = s .covered; written = n; needed = n }) w
 unfolding appended
 appended-made octets trees t {u} {w} {at} {n} {s} behind counted shows left =
     let x = rw behind at shows in
-    record { gave = rw (counted, x .covers); left = left ∙ rw (x .laid .place, x .laid .words) }
+    let k : n ≡ size trees = omega (arith, counted, shows .laid .place) in
+    record { gave = rw (k, x .covers); left = left ∙ rw (x .laid .place, x .laid .words) }

@@ -10,14 +10,14 @@ use tape::header::set_used;
 use tape::header::used;
 ghost use mathlib.Core.Path.{_≡_};
 ghost use mathlib.Core.Bool.{true};
-ghost use Prim.Native.Nat.{_+_, _<_, _^_, _≤_};
+ghost use Prim.Native.Nat.{_+_, _-_, _<_, _^_, _≤_};
 ghost use lib.ListN.{length};
 ghost use Rattle.outcome.specs.Call.{Gives};
 ghost use Rattle.registry.specs.Registry.{numberOf};
-ghost use Rattle.tape.specs.Tape.{headed};
+ghost use Rattle.tape.specs.Tape.{used, room, headed};
 ghost use Rattle.tape.specs.Forest.{size};
 ghost use Rattle.meaning.specs.Frame.{covered};
-ghost use Rattle.meaning.specs.AreaCall.{areaCall, fitted, walkCall, pushCall};
+ghost use Rattle.meaning.specs.AreaCall.{shown, fitted, areaCall, walkCall, pushCall};
 ghost use Rattle.fields.specs.Shows.{Shows};
 ghost use Rattle.subtlv.specs.Call.{shownBy};
 
@@ -56,27 +56,41 @@ fn count(call: Call, area: &[u8], base: Octet, registry: Registry) -> usize
     next.0
 }
 
-// Writes the records behind those that are there, where there is room for them; 5 where there is not.
+// Writes the records behind those that are there, and counts them.
 fn append(call: Call, area: &[u8], base: Octet, registry: Registry, tape: &mut [u64]) -> Outcome
-    requires { ⌜ (length (now area) ≤ 65535) × (base .0 + length (now area) ≤ 4294967295) × (headed (now tape) ≡ true) ⌝ }
-    ensures { λ r. ⌜ Gives (fitted (covered (now (area .entry))) (shownBy call (numberOf registry) (now (area .entry)) (base .0)) (now (tape .entry))) r (now (tape .exit)) ⌝ }
+    requires { ⌜ (length (now area) ≤ 65535) × (base .0 + length (now area) ≤ 4294967295) × (headed (now tape) ≡ true) × (size (shownBy call (numberOf registry) (now area) (base .0)) ≤ room (now tape) - used (now tape)) ⌝ }
+    ensures { λ r. ⌜ Gives (shown (covered (now (area .entry))) (shownBy call (numberOf registry) (now (area .entry)) (base .0)) (now (tape .entry))) r (now (tape .exit)) ⌝ }
 {
-    let needed = count(call, area, base, registry);
     let at = used(tape);
-    let free = (tape.len() - 4) / 6 - at.0;
-    if free < needed {
-        return Outcome::no_room(needed);
-    }
     let shown = show(call, area, base, registry, tape, at);
     let covered = shown.covered;
     let next = shown.next;
+    let written = next.0 - at.0;
     set_used(tape, next);
     Outcome {
         answer: Outcome::DONE,
         covered,
-        written: needed,
-        needed,
+        written,
+        needed: written,
     }
+}
+
+// The records, where there is room for them; 5 where there is not. Where there is room for the most that an area of so many
+// octets can need, nothing is counted before.
+fn fitted(call: Call, area: &[u8], base: Octet, registry: Registry, tape: &mut [u64]) -> Outcome
+    requires { ⌜ (length (now area) ≤ 65535) × (base .0 + length (now area) ≤ 4294967295) × (headed (now tape) ≡ true) ⌝ }
+    ensures { λ r. ⌜ Gives (fitted (covered (now (area .entry))) (shownBy call (numberOf registry) (now (area .entry)) (base .0)) (now (tape .entry))) r (now (tape .exit)) ⌝ }
+{
+    let at = used(tape);
+    let free = (tape.len() - 4) / 6 - at.0;
+    if 1 + 7 * area.len() / 3 <= free {
+        return append(call, area, base, registry, tape);
+    }
+    let needed = count(call, area, base, registry);
+    if free < needed {
+        return Outcome::no_room(needed);
+    }
+    append(call, area, base, registry, tape)
 }
 
 // The checks 1 to 4 in their order, and then 5 or the records.
@@ -96,7 +110,7 @@ fn checked(call: Call, area: &[u8], base: Octet, registry: u64, tape: &mut [u64]
     if !in_order(tape) {
         return Outcome::refused(Outcome::NO_TAPE);
     }
-    append(call, area, base, known, tape)
+    fitted(call, area, base, known, tape)
 }
 
 // The call walk: the records of an area's complete entries, behind those that the tape has.

@@ -52,14 +52,14 @@ same-length c = search needs
 returns-4 : tie.Need-returns-4
 returns-4 c = let g = c .before .before .before .before .before .before .before .before .before .before .before .before .before .args in let k = call-known (shownBy (g .call)) (g .registry) (g .area .now) (g .base .0) (g .tape .now) (sym (c .before .before .before .before .before .before .before .before .before .before .of .ensures) ∙ c .before .before .before .before .before .before .before .before .known .given .1) in let r = c .before .before .before .before .before .before .before .before .known .given .0 .0 in let s = shownBy (g .call) in gives-as (k ∙ call-4 s r (g .area .now) (g .base .0) (g .tape .now) (omega arith) (omega arith) (sym (c .before .before .in-order .ensures) ∙ not-true _ (c .before .if3 .taken))) (record { gave = c .refused4 .ensures; left = refl })
 
-append-requires : tie.Need-append-requires
-append-requires c κs = (omega arith, omega arith, sym (c .before .before .in-order .ensures) ∙ not-false _ (c .before .if3 .left))
+fitted-requires : tie.Need-fitted-requires
+fitted-requires c κs = (omega arith, omega arith, sym (c .before .before .in-order .ensures) ∙ not-false _ (c .before .if3 .left))
 
 same-length-2 : tie.Need-same-length-2
 same-length-2 c = search needs
 
 returns-5 : tie.Need-returns-5
-returns-5 c = let g = c .before .before .before .before .before .before .before .before .before .before .before .before .before .before .before .before .args in let k = call-known (shownBy (g .call)) (g .registry) (g .area .now) (g .base .0) (g .tape .now) (sym (c .before .before .before .before .before .before .before .before .before .before .before .before .before .of .ensures) ∙ c .before .before .before .before .before .before .before .before .before .before .before .known .given .1) in let r = c .before .before .before .before .before .before .before .before .before .before .before .known .given .0 .0 in let s = shownBy (g .call) in gives-as (k ∙ accepted s r (g .area .now) (g .base .0) (g .tape .now) (omega arith) (omega arith) (sym (c .before .before .before .before .before .in-order .ensures) ∙ not-false _ (c .before .before .before .before .if3 .left))) (c .before .before .append .ensures)
+returns-5 c = let g = c .before .before .before .before .before .before .before .before .before .before .before .before .before .before .before .before .args in let k = call-known (shownBy (g .call)) (g .registry) (g .area .now) (g .base .0) (g .tape .now) (sym (c .before .before .before .before .before .before .before .before .before .before .before .before .before .of .ensures) ∙ c .before .before .before .before .before .before .before .before .before .before .before .known .given .1) in let r = c .before .before .before .before .before .before .before .before .before .before .before .known .given .0 .0 in let s = shownBy (g .call) in gives-as (k ∙ accepted s r (g .area .now) (g .base .0) (g .tape .now) (omega arith) (omega arith) (sym (c .before .before .before .before .before .in-order .ensures) ∙ not-false _ (c .before .before .before .before .if3 .left))) (c .before .before .fitted .ensures)
 
 pub checked-spec : {M : Type 1} → statement M
 checked-spec =
@@ -79,6 +79,6 @@ checked-spec =
     refused-requires-4
     same-length
     returns-4
-    append-requires
+    fitted-requires
     same-length-2
     returns-5)
