@@ -83,12 +83,11 @@ fn fitted(call: Call, area: &[u8], base: Octet, registry: Registry, tape: &mut [
 {
     let at = used(tape);
     let free = (tape.len() - 4) / 6 - at.0;
-    if 1 + 7 * area.len() / 3 <= free {
-        return append(call, area, base, registry, tape);
-    }
-    let needed = count(call, area, base, registry);
-    if free < needed {
-        return Outcome::no_room(needed);
+    if free < 1 + 7 * area.len() / 3 {
+        let needed = count(call, area, base, registry);
+        if free < needed {
+            return Outcome::no_room(needed);
+        }
     }
     append(call, area, base, registry, tape)
 }

@@ -1,11 +1,14 @@
 -- There is room for the most that can be needed, there is room, or there is not.
 use mathlib.Core.Path.{refl, ap, _∙_}
+use mathlib.Core.Logic.{⊎-elim}
 use native.Mathlib.Omega.{arith}
-use Prim.Native.Nat.{ℕ}
+use Prim.Native.Nat.{ℕ, _-_, _≤_}
 use Rattle.outcome.specs.Call.{noRoom}
 use Rattle.outcome.specs.CallLaws.{gives-as}
 use Rattle.registry.specs.Registry.{numberOf}
+use Rattle.tape.specs.Tape.{used, room}
 use Rattle.tape.specs.HeaderLaws.{headed-in-order}
+use Rattle.tape.specs.Forest.{size}
 use Rattle.meaning.specs.Frame.{covered}
 use Rattle.meaning.specs.AreaCallLaws.{fitted-5, fitted-0}
 use Rattle.subtlv.specs.Call.{shownBy}
@@ -29,35 +32,26 @@ mul-if1 c = search needs
 add-if1 : tie.Need-add-if1
 add-if1 c = search needs
 
-append-requires : tie.Need-append-requires
-append-requires c κs = let g = c .before .before .before .before .before .before .before .args in (c .before .before .before .before .before .before .before .pre .0, c .before .before .before .before .before .before .before .pre .1, c .before .before .before .before .before .before .before .pre .2, omega (arith, c .before .before .before .used .ensures, most (g .call) (numberOf (g .registry)) (g .area .now) (g .base .0)))
-
-same-length : tie.Need-same-length
-same-length c = search needs
-
-returns : tie.Need-returns
-returns c = let g = c .before .before .before .before .before .before .before .before .before .before .args in let trees = shownBy (g .call) (numberOf (g .registry)) (g .area .now) (g .base .0) in gives-as (fitted-0 (covered (g .area .now)) trees (g .tape .now) (omega (arith, c .before .before .before .before .before .before .used .ensures, most (g .call) (numberOf (g .registry)) (g .area .now) (g .base .0)))) (c .before .before .append .ensures)
-
 count-requires : tie.Need-count-requires
 count-requires c κs = search needs
 
 no-room-requires : tie.Need-no-room-requires
 no-room-requires c κs = search needs
 
+same-length : tie.Need-same-length
+same-length c = search needs
+
+returns : tie.Need-returns
+returns c = let g = c .before .before .before .before .before .before .before .before .before .args in let trees = shownBy (g .call) (numberOf (g .registry)) (g .area .now) (g .base .0) in gives-as (fitted-5 (covered (g .area .now)) trees (g .tape .now) (omega (arith, c .before .before .count .ensures, c .before .before .before .before .before .used .ensures))) (record { gave = c .no-room .ensures ∙ ap (λ (n : ℕ). noRoom n) (c .before .before .count .ensures); left = refl })
+
+append-requires : tie.Need-append-requires
+append-requires c κs = let g = c .before .before .before .before .before .before .before .args in let trees = shownBy (g .call) (numberOf (g .registry)) (g .area .now) (g .base .0) in let fits : size trees ≤ room (g .tape .now) - used (g .tape .now) = ⊎-elim (λ w. omega (arith, w .1 .ensures, w .2 .left, c .before .before .before .used .ensures)) (λ w. omega (arith, w .left, most (g .call) (numberOf (g .registry)) (g .area .now) (g .base .0), c .before .before .before .used .ensures)) (c .before .if1 .came) in (c .before .before .before .before .before .before .before .pre .0, c .before .before .before .before .before .before .before .pre .1, c .before .before .before .before .before .before .before .pre .2, fits)
+
 same-length-2 : tie.Need-same-length-2
 same-length-2 c = search needs
 
 returns-2 : tie.Need-returns-2
-returns-2 c = let g = c .before .before .before .before .before .before .before .before .before .args in let trees = shownBy (g .call) (numberOf (g .registry)) (g .area .now) (g .base .0) in gives-as (fitted-5 (covered (g .area .now)) trees (g .tape .now) (omega (arith, c .before .before .count .ensures, c .before .before .before .before .before .used .ensures))) (record { gave = c .no-room .ensures ∙ ap (λ (n : ℕ). noRoom n) (c .before .before .count .ensures); left = refl })
-
-append-requires-2 : tie.Need-append-requires-2
-append-requires-2 c κs = (c .before .before .before .before .before .before .before .before .before .pre .0, c .before .before .before .before .before .before .before .before .before .pre .1, c .before .before .before .before .before .before .before .before .before .pre .2, omega (arith, c .before .before .before .before .before .used .ensures, c .before .before .count .ensures))
-
-same-length-3 : tie.Need-same-length-3
-same-length-3 c = search needs
-
-returns-3 : tie.Need-returns-3
-returns-3 c = let g = c .before .before .before .before .before .before .before .before .before .before .before .before .args in let trees = shownBy (g .call) (numberOf (g .registry)) (g .area .now) (g .base .0) in gives-as (fitted-0 (covered (g .area .now)) trees (g .tape .now) (omega (arith, c .before .before .before .before .before .before .before .before .used .ensures, c .before .before .before .before .before .count .ensures))) (c .before .before .append2 .ensures)
+returns-2 c = let g = c .before .before .before .before .before .before .before .before .before .before .args in let trees = shownBy (g .call) (numberOf (g .registry)) (g .area .now) (g .base .0) in let fits : size trees ≤ room (g .tape .now) - used (g .tape .now) = ⊎-elim (λ w. omega (arith, w .1 .ensures, w .2 .left, c .before .before .before .before .before .before .used .ensures)) (λ w. omega (arith, w .left, most (g .call) (numberOf (g .registry)) (g .area .now) (g .base .0), c .before .before .before .before .before .before .used .ensures)) (c .before .before .before .before .if1 .came) in gives-as (fitted-0 (covered (g .area .now)) trees (g .tape .now) fits) (c .before .before .append .ensures)
 
 pub fitted-spec : {M : Type 1} → statement M
 fitted-spec =
@@ -68,13 +62,10 @@ fitted-spec =
     sub-free-2
     mul-if1
     add-if1
-    append-requires
-    same-length
-    returns
     count-requires
     no-room-requires
+    same-length
+    returns
+    append-requires
     same-length-2
-    returns-2
-    append-requires-2
-    same-length-3
-    returns-3)
+    returns-2)
