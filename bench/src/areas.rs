@@ -84,9 +84,11 @@ mod tests {
     }
 
     #[test]
-    fn the_longest_areas_are_as_long_as_may_be() {
+    fn two_areas_are_as_long_as_may_be() {
         let areas = areas();
-        let longest = areas.iter().map(|area| area.octets.len()).max();
-        assert_eq!(longest, Some(wakkemosut::LONGEST_AREA));
+        let longest = areas
+            .iter()
+            .filter(|area| area.octets.len() == wakkemosut::LONGEST_AREA);
+        assert_eq!(longest.count(), 2);
     }
 }

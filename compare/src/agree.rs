@@ -2,6 +2,7 @@
 
 use std::collections::BTreeMap;
 use std::fmt::Arguments;
+use std::hint::black_box;
 
 use crate::brief::Brief;
 use crate::lent::Lent;
@@ -155,6 +156,8 @@ fn assert_append(
         let octets = octets.middle();
         call(Area { octets, ..area }, lent)
     });
+    // The compiler may take it that lent octets stay; here they are looked at.
+    let octets = black_box(octets);
     assert_eq!(octets.difference(&before), None, "{name}");
     answer
 }

@@ -1,6 +1,8 @@
 //! The examples of document 01, section "Octets and what they become", through the wrapper.
 
-use wakkemosut::{Label, Laid, Position, Record, Refusal, Registry, Shape, Tape, mask_prefix};
+use wakkemosut::{
+    Label, Laid, Position, Record, Refusal, Registry, Shape, Tape, mask_prefix, most_records,
+};
 
 /// The base of the examples.
 const BASE: u64 = 100;
@@ -191,6 +193,14 @@ fn attribute_flags_come_one_by_one() {
         let entry = tape.read(Position(1)).unwrap();
         assert_eq!(numbers(&entry), [4, 1, 160, 1, 0, 1]);
     });
+}
+
+#[test]
+fn no_area_needs_more_than_the_most_records() {
+    let most = [0, 1, 2, 3, 65_535].map(most_records);
+    assert_eq!(most, [0, 3, 5, 8, 152_916]);
+    let three = most_records(3) as u64;
+    assert_push(Registry::Prefix, "04 01 A0", 3, three, |_| ());
 }
 
 #[test]

@@ -101,13 +101,11 @@ fn a_row_ends_on_any_words() {
             let mut words = pushed();
             words[4 + word] = wrong;
             let tape = Tape::over(&mut words);
-            for at in 0..20 {
-                let inside = tape
-                    .read(Position(at))
-                    .map_or(0, |one| one.children().count());
-                assert!(inside <= 20, "{wrong} at {word}");
+            assert!(tape.trees_from(Position(0)).take(21).count() <= 20);
+            for record in (0..20).flat_map(|at| tape.read(Position(at))) {
+                let children = record.children().take(21).count();
+                assert!(children <= 20, "{wrong} at {word}: {record:?}");
             }
-            assert!(tape.trees_from(Position(0)).count() <= 20);
         }
     }
 }

@@ -18,13 +18,13 @@ const STEPS: usize = 30;
 const MOST_ROOM: u64 = 100;
 
 /// A tape in use, and what was compared on it.
-struct Session {
+struct UsedTape {
     tally: Tally,
     random: Random,
     tape: Vec<u64>,
 }
 
-impl Session {
+impl UsedTape {
     /// A random call that may write; the tape is left as by the model.
     fn step(&mut self) {
         match self.random.below(16) {
@@ -81,24 +81,21 @@ impl Session {
 
 #[test]
 fn many_calls_on_one_tape_are_those_of_the_rust_and_the_model() {
-    let mut session = Session {
+    let mut used = UsedTape {
         tally: Tally::default(),
         random: Random::of_this_run(),
         tape: Vec::new(),
     };
     for _ in 0..TAPES {
-        session.start();
-        (0..STEPS).for_each(|_| session.step());
-        session.look();
+        used.start();
+        (0..STEPS).for_each(|_| used.step());
+        used.look();
     }
-    session.tally.assert_calls(1_000_000);
-    session.tally.assert_answers(Call::Push, &[0, 5], 50_000);
-    session.tally.assert_answers(Call::Walk, &[0, 5], 25_000);
-    session
-        .tally
-        .assert_answers(Call::CutBack, &[0, 6, 7], 1_000);
-    session.tally.assert_answers(Call::Read, &[0, 6], 10_000);
-    session
-        .tally
+    used.tally.assert_calls(1_000_000);
+    used.tally.assert_answers(Call::Push, &[0, 5], 50_000);
+    used.tally.assert_answers(Call::Walk, &[0, 5], 25_000);
+    used.tally.assert_answers(Call::CutBack, &[0, 6, 7], 1_000);
+    used.tally.assert_answers(Call::Read, &[0, 6], 10_000);
+    used.tally
         .assert_answers(Call::NestTest, &[1], TAPES as u64);
 }
