@@ -107,7 +107,7 @@ fn tail(value: &[u8], source: Source, at: usize, tape: &mut [u64], position: Pos
     let stop = start + value[length_at] as usize;
     if n < stop {
         return Decoded {
-            taken: Taken::Octets(length_at),
+            taken: Taken::Octets(at + 16),
             next: after,
         };
     }
