@@ -11,14 +11,14 @@ use Rattle.meaning.specs.Label.{Label, number}
 use Rattle.meaning.specs.Shape.{Shape, shapeNumber, hasNumber}
 use Rattle.meaning.specs.Field.{Span, Element, numbers, array}
 use Rattle.meaning.specs.Tree.{content}
-use Rattle.meaning.specs.Cut.{pieces, total, each}
+use Rattle.meaning.specs.Cut.{pieces, total}
 use Rattle.meaning.specs.CutLaws.{each-same}
 use Rattle.meaning.specs.Frame.{whole}
 use Rattle.meaning.specs.Table.{table, fieldsOf, usual}
 use Rattle.meaning.specs.Array.{octetsIn, startOf, elements, elementTrees, arrayOf}
 use Rattle.meaning.specs.Value.{taken, fieldEnd, fieldTrees, fieldsTrees}
 use Rattle.fields.specs.Shows.{numberTrees, arrayBy}
-use Rattle.decoders.specs.Reading.{Reading, took, readingOf}
+use Rattle.decoders.specs.Reading.{took, readingOf}
 
 -- arrays that are read from a value's first octet on
 module _ (label : Label) (span : Span) (first : startOf span ≡ 0) (r : ℕ) (v : List ℕ) (base : ℕ) where

@@ -2,8 +2,9 @@
 use crate::Decoded;
 use crate::Taken;
 use crate::rows::flag_and_number;
+use crate::rows::ipv4;
+use crate::rows::ipv6;
 use crate::rows::octet_and_sid;
-use crate::rows::one_address;
 use crate::rows::one_number24;
 use crate::rows::one_number32;
 use fields::Source;
@@ -192,45 +193,13 @@ pub fn neighbor(value: &[u8], kind: u8, base: Octet, tape: &mut [u64], at: Posit
     match kind {
         3 => one_number32(value, source, Label::ADMIN_GROUP, tape, at),
         4 => link_identifiers(value, source, tape, at),
-        6 => one_address(
-            value,
-            source,
-            Label::IPV4_INTERFACE_ADDRESS,
-            Shape::IPV4,
-            4,
-            tape,
-            at,
-        ),
-        8 => one_address(
-            value,
-            source,
-            Label::IPV4_NEIGHBOR_ADDRESS,
-            Shape::IPV4,
-            4,
-            tape,
-            at,
-        ),
+        6 => ipv4(value, source, Label::IPV4_INTERFACE_ADDRESS, tape, at),
+        8 => ipv4(value, source, Label::IPV4_NEIGHBOR_ADDRESS, tape, at),
         9 => one_number32(value, source, Label::MAX_BANDWIDTH, tape, at),
         10 => one_number32(value, source, Label::MAX_RESERVABLE_BANDWIDTH, tape, at),
         11 => unreserved_bandwidth(value, source, tape, at),
-        12 => one_address(
-            value,
-            source,
-            Label::IPV6_INTERFACE_ADDRESS,
-            Shape::IPV6,
-            16,
-            tape,
-            at,
-        ),
-        13 => one_address(
-            value,
-            source,
-            Label::IPV6_NEIGHBOR_ADDRESS,
-            Shape::IPV6,
-            16,
-            tape,
-            at,
-        ),
+        12 => ipv6(value, source, Label::IPV6_INTERFACE_ADDRESS, tape, at),
+        13 => ipv6(value, source, Label::IPV6_NEIGHBOR_ADDRESS, tape, at),
         18 => one_number24(value, source, Label::TE_DEFAULT_METRIC, 0, tape, at),
         31 => octet_and_sid(value, source, Label::WEIGHT, tape, at),
         32 => lan_adj_sid(value, source, tape, at),

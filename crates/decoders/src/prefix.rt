@@ -1,9 +1,10 @@
 // Registry 1: sub-TLVs of a prefix (TLVs 27, 135, 235, 236 and 237).
 use crate::Decoded;
 use crate::Taken;
+use crate::rows::ipv4;
+use crate::rows::ipv6;
 use crate::rows::number_array;
 use crate::rows::octet_and_sid;
-use crate::rows::one_address;
 use fields::Source;
 use fields::part::flag;
 use fields::part::number8;
@@ -14,12 +15,39 @@ use tape::Position;
 use tape::label::Label;
 use tape::shape::Shape;
 ghost use mathlib.Core.Path.{_≡_};
+ghost use mathlib.Core.Bool.{true};
 ghost use Prim.Native.Nat.{_+_, _≤_, _<_, _^_};
 ghost use lib.ListN.{length};
+ghost use Rattle.octets.specs.BigEndian.{isWidth};
 ghost use Rattle.tape.specs.Laid.{Laid};
 ghost use Rattle.meaning.specs.Table.{usual};
 ghost use Rattle.decoders.specs.Reading.{Reads, readingOf, reading};
-ghost use Rattle.decoders.specs.Rows.{endHead};
+ghost use Rattle.decoders.specs.Rows.{numberArray, endHead};
+
+// Administrative tags of one width (RFC 5130, sections 3.1 and 3.2).
+fn tags(
+    value: &[u8],
+    source: Source,
+    shape: u8,
+    width: usize,
+    tape: &mut [u64],
+    position: Position,
+) -> Decoded
+    requires { ⌜ (isWidth width ≡ true) × (source .base .0 + length (now value) < 2 ^ 32) × (position .0 < 2 ^ 59) ⌝ }
+    ensures { λ r. ⌜ Reads (numberArray width 34 55 shape width (source .registry) (now (value .entry)) (source .base .0)) (now (tape .entry)) (now (tape .exit)) (position .0) r ⌝ }
+{
+    number_array(
+        value,
+        source,
+        width,
+        Label::TAGS,
+        Label::TAG,
+        shape,
+        width,
+        tape,
+        position,
+    )
+}
 
 // Prefix attribute flags (RFC 7794, section 2.1): X | R | N | ...
 fn prefix_attributes(value: &[u8], source: Source, tape: &mut [u64], position: Position) -> Decoded
@@ -61,48 +89,12 @@ pub fn prefix(value: &[u8], kind: u8, base: Octet, tape: &mut [u64], at: Positio
         base,
     };
     match kind {
-        1 => number_array(
-            value,
-            source,
-            4,
-            Label::TAGS,
-            Label::TAG,
-            Shape::U32,
-            4,
-            tape,
-            at,
-        ),
-        2 => number_array(
-            value,
-            source,
-            8,
-            Label::TAGS,
-            Label::TAG,
-            Shape::U64,
-            8,
-            tape,
-            at,
-        ),
+        1 => tags(value, source, Shape::U32, 4, tape, at),
+        2 => tags(value, source, Shape::U64, 8, tape, at),
         3 => octet_and_sid(value, source, Label::ALGORITHM, tape, at),
         4 => prefix_attributes(value, source, tape, at),
-        11 => one_address(
-            value,
-            source,
-            Label::IPV4_SOURCE_ROUTER_ID,
-            Shape::IPV4,
-            4,
-            tape,
-            at,
-        ),
-        12 => one_address(
-            value,
-            source,
-            Label::IPV6_SOURCE_ROUTER_ID,
-            Shape::IPV6,
-            16,
-            tape,
-            at,
-        ),
+        11 => ipv4(value, source, Label::IPV4_SOURCE_ROUTER_ID, tape, at),
+        12 => ipv6(value, source, Label::IPV6_SOURCE_ROUTER_ID, tape, at),
         _ => Decoded {
             taken: Taken::Nothing,
             next: at,

@@ -1,8 +1,9 @@
 // Registry 2: sub-TLVs of a router capability (TLV 242).
 use crate::Decoded;
 use crate::Taken;
+use crate::rows::ipv4;
+use crate::rows::ipv6;
 use crate::rows::number_array;
-use crate::rows::one_address;
 use fields::Source;
 use fields::array::msds;
 use fields::array::ranges;
@@ -17,6 +18,7 @@ ghost use Prim.Native.Nat.{_+_, _<_, _^_};
 ghost use lib.ListN.{length};
 ghost use Rattle.meaning.specs.Table.{usual};
 ghost use Rattle.decoders.specs.Reading.{Reads, readingOf, reading};
+ghost use Rattle.decoders.specs.Rows.{numberArray};
 
 // SR-Capabilities and SR Local Block (RFC 8667, sections 3.1 and 3.3): Flags | ranges.
 fn flags_and_ranges(value: &[u8], source: Source, tape: &mut [u64], position: Position) -> Decoded
@@ -42,6 +44,24 @@ fn flags_and_ranges(value: &[u8], source: Source, tape: &mut [u64], position: Po
         taken: Taken::Octets(1 + covered),
         next,
     }
+}
+
+// SR-Algorithm (RFC 8667, section 3.2).
+fn algorithms(value: &[u8], source: Source, tape: &mut [u64], position: Position) -> Decoded
+    requires { ⌜ (source .base .0 + length (now value) < 2 ^ 32) × (position .0 < 2 ^ 59) ⌝ }
+    ensures { λ r. ⌜ Reads (numberArray 0 41 56 0 1 (source .registry) (now (value .entry)) (source .base .0)) (now (tape .entry)) (now (tape .exit)) (position .0) r ⌝ }
+{
+    number_array(
+        value,
+        source,
+        0,
+        Label::ALGORITHMS,
+        Label::ALGORITHM_ELEMENT,
+        Shape::U8,
+        1,
+        tape,
+        position,
+    )
 }
 
 // Node MSD (RFC 8491, section 2): MSD-Type | MSD-Value, and so on.
@@ -93,35 +113,9 @@ pub fn router_capability(
     };
     match kind {
         2 => flags_and_ranges(value, source, tape, at),
-        11 => one_address(
-            value,
-            source,
-            Label::IPV4_TE_ROUTER_ID,
-            Shape::IPV4,
-            4,
-            tape,
-            at,
-        ),
-        12 => one_address(
-            value,
-            source,
-            Label::IPV6_TE_ROUTER_ID,
-            Shape::IPV6,
-            16,
-            tape,
-            at,
-        ),
-        19 => number_array(
-            value,
-            source,
-            0,
-            Label::ALGORITHMS,
-            Label::ALGORITHM_ELEMENT,
-            Shape::U8,
-            1,
-            tape,
-            at,
-        ),
+        11 => ipv4(value, source, Label::IPV4_TE_ROUTER_ID, tape, at),
+        12 => ipv6(value, source, Label::IPV6_TE_ROUTER_ID, tape, at),
+        19 => algorithms(value, source, tape, at),
         22 => flags_and_ranges(value, source, tape, at),
         23 => node_msd(value, source, tape, at),
         24 => preference(value, source, tape, at),

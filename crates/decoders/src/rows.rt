@@ -70,7 +70,7 @@ pub fn one_number32(
 }
 
 // An address in the first `width` octets.
-pub fn one_address(
+fn one_address(
     value: &[u8],
     source: Source,
     label: u8,
@@ -93,6 +93,34 @@ pub fn one_address(
         taken: Taken::Octets(width),
         next,
     }
+}
+
+// An IPv4 address.
+pub fn ipv4(
+    value: &[u8],
+    source: Source,
+    label: u8,
+    tape: &mut [u64],
+    position: Position,
+) -> Decoded
+    requires { ⌜ (source .base .0 + length (now value) < 2 ^ 32) × (position .0 < 2 ^ 59) ⌝ }
+    ensures { λ r. ⌜ Reads (oneAddress label 4 4 (source .registry) (now (value .entry)) (source .base .0)) (now (tape .entry)) (now (tape .exit)) (position .0) r ⌝ }
+{
+    one_address(value, source, label, Shape::IPV4, 4, tape, position)
+}
+
+// An IPv6 address.
+pub fn ipv6(
+    value: &[u8],
+    source: Source,
+    label: u8,
+    tape: &mut [u64],
+    position: Position,
+) -> Decoded
+    requires { ⌜ (source .base .0 + length (now value) < 2 ^ 32) × (position .0 < 2 ^ 59) ⌝ }
+    ensures { λ r. ⌜ Reads (oneAddress label 5 16 (source .registry) (now (value .entry)) (source .base .0)) (now (tape .entry)) (now (tape .exit)) (position .0) r ⌝ }
+{
+    one_address(value, source, label, Shape::IPV6, 16, tape, position)
 }
 
 // Flags | an octet | SID.

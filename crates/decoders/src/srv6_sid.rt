@@ -7,7 +7,6 @@ use registry::registries::Srv6Sid;
 use tape::Octet;
 use tape::Position;
 use tape::label::Label;
-use tape::shape::Shape;
 ghost use Prim.Native.Nat.{_+_, _<_, _^_};
 ghost use lib.ListN.{length};
 ghost use Rattle.meaning.specs.Table.{usual};

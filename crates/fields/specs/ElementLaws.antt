@@ -1,13 +1,12 @@
 -- Elements of arrays, out of their parts.
-use mathlib.Core.Path.{_≡_, refl, sym, ap, _∙_}
+use mathlib.Core.Path.{_≡_}
 use mathlib.Core.Bool.{Bool, true, false, _||_, cond}
 use mathlib.Core.List.{List}
 use Prim.Native.Nat.{ℕ, suc, _+_, _%_, _^_, _≤_}
 use native.Mathlib.Nat.{add-zero, add-assoc}
 use native.Mathlib.Omega.{arith}
 use lib.Dec.{leb, eqb}
-use lib.ListN.{length, getD}
-use borrow.Author.Tests.{eq-eqb}
+use lib.ListN.{length}
 use Rattle.octets.specs.BigEndian.{bigEndian}
 use Rattle.octets.specs.BigEndianLaws.{bigEndian-one}
 use Rattle.tape.specs.Record.{containerRecord}

@@ -3,12 +3,11 @@ use mathlib.Core.Path.{_≡_, refl}
 use mathlib.Core.List.{List}
 use mathlib.Core.Bool.{Bool, true, false, cond}
 use Prim.Native.Nat.{ℕ, _+_, _%_, _^_, _≤_, _<_}
-use native.Mathlib.Omega.{arith}
 use lib.Dec.{leb}
 use lib.ListN.{length}
 use borrow.Author.Tests.{le-leb, lt-leb, leb-true}
 use Rattle.octets.specs.BigEndian.{bigEndian}
-use Rattle.tape.specs.Forest.{Forest, none, leaf}
+use Rattle.tape.specs.Forest.{none, leaf}
 use Rattle.meaning.specs.Label.{Label, number}
 use Rattle.meaning.specs.Tree.{content}
 use Rattle.meaning.specs.Sid.{sidTrees, sidEnd}

@@ -4,7 +4,7 @@ use Prim.Native.Nat.{ℕ, _≤_, _<_}
 use mathlib.Core.List.{List}
 use lib.ListN.{length}
 use Rattle.outcome.specs.Call.{refusal}
-use Rattle.registry.specs.Registry.{numberOf, registryOf}
+use Rattle.registry.specs.Registry.{numberOf}
 use Rattle.registry.specs.RegistryLaws.{registryOf-number, registryOf-past}
 use Rattle.registry.specs.Names.{nameOf}
 use Rattle.registry.specs.NameCall.{done, nameIn, nameCall}

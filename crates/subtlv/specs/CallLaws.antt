@@ -1,5 +1,5 @@
 -- Room for a call, and its cases.
-use mathlib.Core.Path.{_≡_, refl, sym, ap, _∙_}
+use mathlib.Core.Path.{_≡_, _∙_}
 use mathlib.Core.List.{List}
 use Prim.Native.Nat.{ℕ, _+_, _*_, _-_, _/_, _^_, _≤_, _<_}
 use native.Mathlib.Omega.{arith}
@@ -13,8 +13,8 @@ use Rattle.registry.specs.Registry.{numberOf, registryOf}
 use Rattle.registry.specs.RegistryLaws.{registryOf-number}
 use Rattle.registry.specs.declared.Found.the-variants.{Known, Unknown}
 use Rattle.registry.specs.declared.Registry.{Registry}
-use Rattle.tape.specs.Tape.{used, withUsed, store}
-use Rattle.tape.specs.Forest.{Forest, size, flat}
+use Rattle.tape.specs.Tape.{used, withUsed}
+use Rattle.tape.specs.Forest.{Forest, size}
 use Rattle.meaning.specs.Value.{Walk as Shows′}
 use Rattle.meaning.specs.AreaCall.{appended, shown, callIn, areaCall}
 use Rattle.fields.specs.Shows.{Shows}

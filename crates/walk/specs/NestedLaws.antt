@@ -6,7 +6,6 @@ use native.Mathlib.Nat.{add-assoc, add-sub-cancel-left}
 use native.Mathlib.Omega.{arith}
 use lib.ListN.{length, getD, take, drop, length-drop}
 use lib.Seq.{length-take-le}
-use borrow.Author.Tests.{le-leb}
 use Rattle.registry.specs.Registry.{numberOf}
 use Rattle.registry.specs.declared.Registry.the-variants.{Srv6Sid, Unregistered}
 use Rattle.tape.specs.Forest.{Forest, none, leaf, size, _⧺_}
@@ -21,7 +20,7 @@ use Rattle.meaning.specs.Tail.{inner}
 use Rattle.meaning.specs.Table.{usual, table}
 use Rattle.meaning.specs.TableLaws.{leastIn, fieldsIn, OneRow}
 use Rattle.meaning.specs.Value.{fieldEnd, fieldTrees}
-use Rattle.meaning.specs.ValueLaws.{tail-bare, tail-overrun, tail-inner, Alone, Inner}
+use Rattle.meaning.specs.ValueLaws.{tail-inner, Alone, Inner}
 use Rattle.meaning.specs.Area.{walked, pushed}
 use Rattle.fields.specs.Shows.{Shows}
 use Rattle.fields.specs.declared.Shown.{Shown}

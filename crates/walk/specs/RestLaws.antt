@@ -1,11 +1,11 @@
 -- Laws of what follows a decoder's records.
-use mathlib.Core.Path.{_≡_, refl, ap}
+use mathlib.Core.Path.{_≡_, refl}
 use mathlib.Core.List.{List, [], _∷_}
 use Prim.Native.Nat.{ℕ, _+_, _-_, _≤_, _<_}
 use native.Mathlib.Nat.{add-zero}
 use native.Mathlib.Omega.{arith}
 use lib.ListN.{length, drop, length-drop, drop-of-length-le}
-use Rattle.tape.specs.Forest.{Forest, none, leaf, _⧺_}
+use Rattle.tape.specs.Forest.{none, leaf, _⧺_}
 use Rattle.tape.specs.Laid.{Laid}
 use Rattle.meaning.specs.Tree.{content, raw, value}
 use Rattle.meaning.specs.Field.{Field}

@@ -8,17 +8,17 @@ use lib.ListN.{length, take, drop, length-drop}
 use lib.Seq.{length-take-le}
 use Rattle.tape.specs.Record.{containerRecord}
 use Rattle.tape.specs.Tape.{putAt}
-use Rattle.tape.specs.Forest.{Forest, none, size, _⧺_}
+use Rattle.tape.specs.Forest.{Forest, size, _⧺_}
 use Rattle.tape.specs.ForestLaws.{size-⧺}
 use Rattle.tape.specs.Laid.{Laid}
 use Rattle.tape.specs.LaidLaws.{laid-none, laid-then}
 use Rattle.tape.specs.Laying.{laying-room}
 use Rattle.tape.specs.declared.Position.{Position}
 use Rattle.meaning.specs.Tree.{content, raw}
-use Rattle.meaning.specs.Cut.{pieces, total, each}
+use Rattle.meaning.specs.Cut.{pieces, each}
 use Rattle.meaning.specs.Frame.{entryLength, entries, covered, remainder}
 use Rattle.meaning.specs.FrameLaws.{entry-fits, covered-none}
-use Rattle.meaning.specs.PlaceLaws.{left, left-step}
+use Rattle.meaning.specs.PlaceLaws.{left-step}
 use Rattle.meaning.specs.Array.{arrayOf}
 use Rattle.meaning.specs.Table.{usual}
 use Rattle.meaning.specs.Value.{pushBy}

@@ -23,7 +23,6 @@ use tape::Octet;
 use tape::Position;
 use tape::label::Label;
 use tape::shape::Shape;
-ghost use mathlib.Core.Path.{_≡_};
 ghost use Prim.Native.Nat.{_+_, _≤_, _<_, _^_};
 ghost use lib.ListN.{length, drop};
 ghost use Rattle.registry.specs.Registry.{numberOf};
@@ -36,6 +35,7 @@ ghost use Rattle.meaning.specs.Value.{fieldEnd, fieldTrees};
 ghost use Rattle.meaning.specs.Area.{entryTrees, walked, pushed};
 ghost use Rattle.fields.specs.Shows.{Shows};
 ghost use Rattle.decoders.specs.Reading.{Reads, took, reading};
+ghost use Rattle.decoders.specs.Rows.{octetsAt};
 ghost use Rattle.walk.specs.Rest.{restOf, Room};
 
 // Lays the octets from `at` on as one `raw` record, or nothing where there are none.
@@ -79,15 +79,12 @@ fn rest(
     }
 }
 
-// The SRv6 tail (RFC 9352, section 7.2): 16 octets of SID, a length octet, and an inner area, which is walked in registry 4.
-fn tail(value: &[u8], source: Source, at: usize, tape: &mut [u64], position: Position) -> Decoded
-    requires { ⌜ (at + 16 ≤ length (now value)) × Room (fieldTrees (walked usual) (source .registry) (now value) (source .base .0) (tailField at)) (length (now value)) (source .base .0) (position .0) ⌝ }
-    ensures { λ r. ⌜ Reads (took (fieldEnd (now (value .entry)) (tailField at)) (fieldTrees (walked usual) (source .registry) (now (value .entry)) (source .base .0) (tailField at))) (now (tape .entry)) (now (tape .exit)) (position .0) r ⌝ }
+// Lays the 16 octets of an SRv6 SID from `at` on.
+fn sid_octets(source: Source, at: usize, tape: &mut [u64], position: Position) -> Position
+    requires { ⌜ (source .base .0 + at + 16 < 2 ^ 32) × (position .0 < 2 ^ 60) ⌝ }
+    ensures { λ r. ⌜ Laid (octetsAt 29 5 at 16 (source .registry) (source .base .0)) (now (tape .entry)) (now (tape .exit)) (position .0) (r .0) ⌝ }
 {
-    let n = value.len();
-    let base = source.base.0;
-    let length_at = at + 16;
-    let after = part(
+    part(
         source,
         Label::SRV6_SID,
         Shape::IPV6,
@@ -96,7 +93,18 @@ fn tail(value: &[u8], source: Source, at: usize, tape: &mut [u64], position: Pos
         0,
         tape,
         position,
-    );
+    )
+}
+
+// The SRv6 tail (RFC 9352, section 7.2): 16 octets of SID, a length octet, and an inner area, which is walked in registry 4.
+fn tail(value: &[u8], source: Source, at: usize, tape: &mut [u64], position: Position) -> Decoded
+    requires { ⌜ (at + 16 ≤ length (now value)) × Room (fieldTrees (walked usual) (source .registry) (now value) (source .base .0) (tailField at)) (length (now value)) (source .base .0) (position .0) ⌝ }
+    ensures { λ r. ⌜ Reads (took (fieldEnd (now (value .entry)) (tailField at)) (fieldTrees (walked usual) (source .registry) (now (value .entry)) (source .base .0) (tailField at))) (now (tape .entry)) (now (tape .exit)) (position .0) r ⌝ }
+{
+    let n = value.len();
+    let base = source.base.0;
+    let length_at = at + 16;
+    let after = sid_octets(source, at, tape, position);
     if n <= length_at {
         return Decoded {
             taken: Taken::Octets(length_at),

@@ -3,10 +3,9 @@ use mathlib.Core.Path.{_≡_, refl, sym}
 use mathlib.Core.Bool.{true, true≢false}
 use mathlib.Core.List.{List, [], _∷_}
 use Prim.Native.Nat.{ℕ, _+_}
-use lib.ListN.{length, getD, drop}
+use lib.ListN.{getD, drop}
 use Rattle.registry.specs.Registry.{numberOf}
 use Rattle.registry.specs.declared.Registry.the-variants.{Srv6Sid, Unregistered}
-use Rattle.tape.specs.Forest.{Forest}
 use Rattle.meaning.specs.CutLaws.{each-same}
 use Rattle.meaning.specs.Frame.{entries}
 use Rattle.meaning.specs.Field.{Field, part, flag, sid, array, tail, push, Plan}

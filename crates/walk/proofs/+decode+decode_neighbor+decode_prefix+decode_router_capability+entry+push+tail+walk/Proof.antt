@@ -139,7 +139,7 @@ pub +decode+decode-neighbor+decode-prefix+decode-router-capability+entry+push+ta
     (tail-at t)
     tail.Post
     (Tail.add-length-at t)
-    (Tail.part-requires t)
+    (Tail.sid-octets-requires t)
     (Tail.same-length t)
     (Tail.returns t)
     (Tail.add-start t)

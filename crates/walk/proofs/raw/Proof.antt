@@ -2,7 +2,6 @@
 use Prim.Native.Nat.{_+_}
 use Rattle.tape.specs.LaidLaws.{laid-none}
 use Rattle.walk.specs.RestLaws.{raw-none, raw-some}
-use native.Mathlib.Omega.{arith}
 use borrow.Author.Needs.{needs}
 use Rattle.walk.proofs.raw.Statement.{statement}
 use Rattle.walk.proofs.raw.Tie as tie

@@ -1,5 +1,4 @@
 -- The system id, and then as End.X.
-use native.Mathlib.Omega.{arith}
 use Rattle.tape.specs.LaidLaws.{laid-then}
 use borrow.Author.Needs.{needs}
 use Rattle.decoders.proofs.neighbor.lan_end_x_head.Statement.{statement}

@@ -1,6 +1,5 @@
 -- The bit and two numbers, one after the other.
 use mathlib.Core.Path.{refl}
-use native.Mathlib.Omega.{arith}
 use Rattle.tape.specs.Forest.{_⧺_}
 use Rattle.tape.specs.LaidLaws.{laid-then}
 use Rattle.meaning.specs.Table.{table, fieldsOf, usual}

@@ -21,11 +21,11 @@ one-number32-requires c κs = search needs
 link-identifiers-requires : tie.Need-link-identifiers-requires
 link-identifiers-requires c κs = search needs
 
-one-address-requires : tie.Need-one-address-requires
-one-address-requires c κs = search needs
+ipv4-requires : tie.Need-ipv4-requires
+ipv4-requires c κs = search needs
 
-one-address-requires-2 : tie.Need-one-address-requires-2
-one-address-requires-2 c κs = search needs
+ipv4-requires-2 : tie.Need-ipv4-requires-2
+ipv4-requires-2 c κs = search needs
 
 one-number32-requires-2 : tie.Need-one-number32-requires-2
 one-number32-requires-2 c κs = search needs
@@ -36,11 +36,11 @@ one-number32-requires-3 c κs = search needs
 unreserved-bandwidth-requires : tie.Need-unreserved-bandwidth-requires
 unreserved-bandwidth-requires c κs = search needs
 
-one-address-requires-3 : tie.Need-one-address-requires-3
-one-address-requires-3 c κs = search needs
+ipv6-requires : tie.Need-ipv6-requires
+ipv6-requires c κs = search needs
 
-one-address-requires-4 : tie.Need-one-address-requires-4
-one-address-requires-4 c κs = search needs
+ipv6-requires-2 : tie.Need-ipv6-requires-2
+ipv6-requires-2 c κs = search needs
 
 one-number24-requires : tie.Need-one-number24-requires
 one-number24-requires c κs = search needs
@@ -84,14 +84,14 @@ same-length-3 c = search needs
 
 returns-3 : tie.Need-returns-3
 unfolding usual fieldsOf table leastIn fieldsIn readingOf fieldsTrees fieldTrees taken fieldEnd _⧺_
-returns-3 c = let g = c .before .before .before .before .before .before .before .args in let v = g .value .now in of-type 0 6 (g .kind) v (g .base .0) (c .before .before .before .before .match .keys3) (row-given 0 6 0 v (g .base .0) refl (c .before .before .one-address .ensures))
+returns-3 c = let g = c .before .before .before .before .before .before .before .args in let v = g .value .now in of-type 0 6 (g .kind) v (g .base .0) (c .before .before .before .before .match .keys3) (row-given 0 6 0 v (g .base .0) refl (c .before .before .ipv4 .ensures))
 
 same-length-4 : tie.Need-same-length-4
 same-length-4 c = search needs
 
 returns-4 : tie.Need-returns-4
 unfolding usual fieldsOf table leastIn fieldsIn readingOf fieldsTrees fieldTrees taken fieldEnd _⧺_
-returns-4 c = let g = c .before .before .before .before .before .before .before .args in let v = g .value .now in of-type 0 8 (g .kind) v (g .base .0) (c .before .before .before .before .match .keys4) (row-given 0 8 0 v (g .base .0) refl (c .before .before .one-address2 .ensures))
+returns-4 c = let g = c .before .before .before .before .before .before .before .args in let v = g .value .now in of-type 0 8 (g .kind) v (g .base .0) (c .before .before .before .before .match .keys4) (row-given 0 8 0 v (g .base .0) refl (c .before .before .ipv42 .ensures))
 
 same-length-5 : tie.Need-same-length-5
 same-length-5 c = search needs
@@ -118,14 +118,14 @@ same-length-8 c = search needs
 
 returns-8 : tie.Need-returns-8
 unfolding usual fieldsOf table leastIn fieldsIn readingOf fieldsTrees fieldTrees taken fieldEnd _⧺_
-returns-8 c = let g = c .before .before .before .before .before .before .before .args in let v = g .value .now in of-type 0 12 (g .kind) v (g .base .0) (c .before .before .before .before .match .keys8) (row-given 0 12 0 v (g .base .0) refl (c .before .before .one-address3 .ensures))
+returns-8 c = let g = c .before .before .before .before .before .before .before .args in let v = g .value .now in of-type 0 12 (g .kind) v (g .base .0) (c .before .before .before .before .match .keys8) (row-given 0 12 0 v (g .base .0) refl (c .before .before .ipv6 .ensures))
 
 same-length-9 : tie.Need-same-length-9
 same-length-9 c = search needs
 
 returns-9 : tie.Need-returns-9
 unfolding usual fieldsOf table leastIn fieldsIn readingOf fieldsTrees fieldTrees taken fieldEnd _⧺_
-returns-9 c = let g = c .before .before .before .before .before .before .before .args in let v = g .value .now in of-type 0 13 (g .kind) v (g .base .0) (c .before .before .before .before .match .keys9) (row-given 0 13 0 v (g .base .0) refl (c .before .before .one-address4 .ensures))
+returns-9 c = let g = c .before .before .before .before .before .before .before .args in let v = g .value .now in of-type 0 13 (g .kind) v (g .base .0) (c .before .before .before .before .match .keys9) (row-given 0 13 0 v (g .base .0) refl (c .before .before .ipv62 .ensures))
 
 same-length-10 : tie.Need-same-length-10
 same-length-10 c = search needs
@@ -196,13 +196,13 @@ neighbor-spec =
     cast-t7
     one-number32-requires
     link-identifiers-requires
-    one-address-requires
-    one-address-requires-2
+    ipv4-requires
+    ipv4-requires-2
     one-number32-requires-2
     one-number32-requires-3
     unreserved-bandwidth-requires
-    one-address-requires-3
-    one-address-requires-4
+    ipv6-requires
+    ipv6-requires-2
     one-number24-requires
     octet-and-sid-requires
     lan-adj-sid-requires

@@ -1,5 +1,4 @@
 -- Two numbers, one after the other.
-use native.Mathlib.Omega.{arith}
 use Rattle.tape.specs.LaidLaws.{laid-then}
 use borrow.Author.Needs.{needs}
 use Rattle.decoders.proofs.prefix.end_head.Statement.{statement}

@@ -17,11 +17,11 @@ use Rattle.decoders.proofs.prefix.prefix.Tie as tie
 cast-t7 : tie.Need-cast-t7
 cast-t7 c = search needs
 
-number-array-requires : tie.Need-number-array-requires
-number-array-requires c κs = search needs
+tags-requires : tie.Need-tags-requires
+tags-requires c κs = search needs
 
-number-array-requires-2 : tie.Need-number-array-requires-2
-number-array-requires-2 c κs = search needs
+tags-requires-2 : tie.Need-tags-requires-2
+tags-requires-2 c κs = search needs
 
 octet-and-sid-requires : tie.Need-octet-and-sid-requires
 octet-and-sid-requires c κs = search needs
@@ -29,25 +29,25 @@ octet-and-sid-requires c κs = search needs
 prefix-attributes-requires : tie.Need-prefix-attributes-requires
 prefix-attributes-requires c κs = search needs
 
-one-address-requires : tie.Need-one-address-requires
-one-address-requires c κs = search needs
+ipv4-requires : tie.Need-ipv4-requires
+ipv4-requires c κs = search needs
 
-one-address-requires-2 : tie.Need-one-address-requires-2
-one-address-requires-2 c κs = search needs
+ipv6-requires : tie.Need-ipv6-requires
+ipv6-requires c κs = search needs
 
 same-length : tie.Need-same-length
 same-length c = search needs
 
 returns : tie.Need-returns
 unfolding usual fieldsOf table leastIn fieldsIn
-returns c = let g = c .before .before .before .before .before .before .before .args in let v = g .value .now in of-type 1 1 (g .kind) v (g .base .0) (c .before .before .before .before .match .keys1) (row-given 1 1 1 v (g .base .0) refl (reads-as (ap (λ (x : Reading). given 4 v x) (numbers-row Label.tags (from 0) refl 1 v (g .base .0) Label.tag u32 4 refl)) (c .before .before .number-array .ensures)))
+returns c = let g = c .before .before .before .before .before .before .before .args in let v = g .value .now in of-type 1 1 (g .kind) v (g .base .0) (c .before .before .before .before .match .keys1) (row-given 1 1 1 v (g .base .0) refl (reads-as (ap (λ (x : Reading). given 4 v x) (numbers-row Label.tags (from 0) refl 1 v (g .base .0) Label.tag u32 4 refl)) (c .before .before .tags .ensures)))
 
 same-length-2 : tie.Need-same-length-2
 same-length-2 c = search needs
 
 returns-2 : tie.Need-returns-2
 unfolding usual fieldsOf table leastIn fieldsIn
-returns-2 c = let g = c .before .before .before .before .before .before .before .args in let v = g .value .now in of-type 1 2 (g .kind) v (g .base .0) (c .before .before .before .before .match .keys2) (row-given 1 2 1 v (g .base .0) refl (reads-as (ap (λ (x : Reading). given 8 v x) (numbers-row Label.tags (from 0) refl 1 v (g .base .0) Label.tag u64 8 refl)) (c .before .before .number-array2 .ensures)))
+returns-2 c = let g = c .before .before .before .before .before .before .before .args in let v = g .value .now in of-type 1 2 (g .kind) v (g .base .0) (c .before .before .before .before .match .keys2) (row-given 1 2 1 v (g .base .0) refl (reads-as (ap (λ (x : Reading). given 8 v x) (numbers-row Label.tags (from 0) refl 1 v (g .base .0) Label.tag u64 8 refl)) (c .before .before .tags2 .ensures)))
 
 same-length-3 : tie.Need-same-length-3
 same-length-3 c = search needs
@@ -67,14 +67,14 @@ same-length-5 c = search needs
 
 returns-5 : tie.Need-returns-5
 unfolding usual fieldsOf table leastIn fieldsIn readingOf fieldsTrees fieldTrees taken fieldEnd _⧺_
-returns-5 c = let g = c .before .before .before .before .before .before .before .args in let v = g .value .now in of-type 1 11 (g .kind) v (g .base .0) (c .before .before .before .before .match .keys5) (row-given 1 11 1 v (g .base .0) refl (c .before .before .one-address .ensures))
+returns-5 c = let g = c .before .before .before .before .before .before .before .args in let v = g .value .now in of-type 1 11 (g .kind) v (g .base .0) (c .before .before .before .before .match .keys5) (row-given 1 11 1 v (g .base .0) refl (c .before .before .ipv4 .ensures))
 
 same-length-6 : tie.Need-same-length-6
 same-length-6 c = search needs
 
 returns-6 : tie.Need-returns-6
 unfolding usual fieldsOf table leastIn fieldsIn readingOf fieldsTrees fieldTrees taken fieldEnd _⧺_
-returns-6 c = let g = c .before .before .before .before .before .before .before .args in let v = g .value .now in of-type 1 12 (g .kind) v (g .base .0) (c .before .before .before .before .match .keys6) (row-given 1 12 1 v (g .base .0) refl (c .before .before .one-address2 .ensures))
+returns-6 c = let g = c .before .before .before .before .before .before .before .args in let v = g .value .now in of-type 1 12 (g .kind) v (g .base .0) (c .before .before .before .before .match .keys6) (row-given 1 12 1 v (g .base .0) refl (c .before .before .ipv6 .ensures))
 
 returns-7 : tie.Need-returns-7
 unfolding table
@@ -85,12 +85,12 @@ prefix-spec =
     tie.close
     (tie.spec
     cast-t7
-    number-array-requires
-    number-array-requires-2
+    tags-requires
+    tags-requires-2
     octet-and-sid-requires
     prefix-attributes-requires
-    one-address-requires
-    one-address-requires-2
+    ipv4-requires
+    ipv6-requires
     same-length
     returns
     same-length-2

@@ -2,7 +2,7 @@
 use mathlib.Core.Path.{refl, ap}
 use native.Mathlib.Omega.{arith}
 use Prim.Native.Nat.{ℕ, _+_}
-use lib.ListN.{length, drop, length-drop}
+use lib.ListN.{drop, length-drop}
 use Rattle.tape.specs.Forest.{_⧺_}
 use Rattle.tape.specs.LaidLaws.{laid-then}
 use Rattle.meaning.specs.Table.{table, fieldsOf, usual}

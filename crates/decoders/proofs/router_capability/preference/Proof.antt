@@ -1,8 +1,6 @@
 -- One octet.
 use mathlib.Core.Path.{refl}
-use native.Mathlib.Omega.{arith}
 use Rattle.tape.specs.Forest.{_⧺_}
-use Rattle.tape.specs.LaidLaws.{laid-none}
 use Rattle.meaning.specs.Table.{table, fieldsOf, usual}
 use Rattle.meaning.specs.TableLaws.{leastIn, fieldsIn}
 use Rattle.meaning.specs.Value.{fieldEnd, fieldTrees, fieldsTrees, taken}

@@ -20,14 +20,14 @@ cast-t7 c = search needs
 flags-and-ranges-requires : tie.Need-flags-and-ranges-requires
 flags-and-ranges-requires c κs = search needs
 
-one-address-requires : tie.Need-one-address-requires
-one-address-requires c κs = search needs
+ipv4-requires : tie.Need-ipv4-requires
+ipv4-requires c κs = search needs
 
-one-address-requires-2 : tie.Need-one-address-requires-2
-one-address-requires-2 c κs = search needs
+ipv6-requires : tie.Need-ipv6-requires
+ipv6-requires c κs = search needs
 
-number-array-requires : tie.Need-number-array-requires
-number-array-requires c κs = search needs
+algorithms-requires : tie.Need-algorithms-requires
+algorithms-requires c κs = search needs
 
 flags-and-ranges-requires-2 : tie.Need-flags-and-ranges-requires-2
 flags-and-ranges-requires-2 c κs = search needs
@@ -49,21 +49,21 @@ same-length-2 c = search needs
 
 returns-2 : tie.Need-returns-2
 unfolding usual fieldsOf table leastIn fieldsIn readingOf fieldsTrees fieldTrees taken fieldEnd _⧺_
-returns-2 c = let g = c .before .before .before .before .before .before .before .args in let v = g .value .now in of-type 2 11 (g .kind) v (g .base .0) (c .before .before .before .before .match .keys2) (row-given 2 11 2 v (g .base .0) refl (c .before .before .one-address .ensures))
+returns-2 c = let g = c .before .before .before .before .before .before .before .args in let v = g .value .now in of-type 2 11 (g .kind) v (g .base .0) (c .before .before .before .before .match .keys2) (row-given 2 11 2 v (g .base .0) refl (c .before .before .ipv4 .ensures))
 
 same-length-3 : tie.Need-same-length-3
 same-length-3 c = search needs
 
 returns-3 : tie.Need-returns-3
 unfolding usual fieldsOf table leastIn fieldsIn readingOf fieldsTrees fieldTrees taken fieldEnd _⧺_
-returns-3 c = let g = c .before .before .before .before .before .before .before .args in let v = g .value .now in of-type 2 12 (g .kind) v (g .base .0) (c .before .before .before .before .match .keys3) (row-given 2 12 2 v (g .base .0) refl (c .before .before .one-address2 .ensures))
+returns-3 c = let g = c .before .before .before .before .before .before .before .args in let v = g .value .now in of-type 2 12 (g .kind) v (g .base .0) (c .before .before .before .before .match .keys3) (row-given 2 12 2 v (g .base .0) refl (c .before .before .ipv6 .ensures))
 
 same-length-4 : tie.Need-same-length-4
 same-length-4 c = search needs
 
 returns-4 : tie.Need-returns-4
 unfolding usual fieldsOf table leastIn fieldsIn
-returns-4 c = let g = c .before .before .before .before .before .before .before .args in let v = g .value .now in of-type 2 19 (g .kind) v (g .base .0) (c .before .before .before .before .match .keys4) (row-given 2 19 2 v (g .base .0) refl (reads-as (ap (λ (x : Reading). given 0 v x) (numbers-row Label.algorithms (from 0) refl 2 v (g .base .0) Label.algorithmElement u8 1 refl)) (c .before .before .number-array .ensures)))
+returns-4 c = let g = c .before .before .before .before .before .before .before .args in let v = g .value .now in of-type 2 19 (g .kind) v (g .base .0) (c .before .before .before .before .match .keys4) (row-given 2 19 2 v (g .base .0) refl (reads-as (ap (λ (x : Reading). given 0 v x) (numbers-row Label.algorithms (from 0) refl 2 v (g .base .0) Label.algorithmElement u8 1 refl)) (c .before .before .algorithms .ensures)))
 
 same-length-5 : tie.Need-same-length-5
 same-length-5 c = search needs
@@ -94,9 +94,9 @@ router-capability-spec =
     (tie.spec
     cast-t7
     flags-and-ranges-requires
-    one-address-requires
-    one-address-requires-2
-    number-array-requires
+    ipv4-requires
+    ipv6-requires
+    algorithms-requires
     flags-and-ranges-requires-2
     node-msd-requires
     preference-requires

@@ -1,6 +1,5 @@
 -- The number is laid where there are enough octets.
 use mathlib.Core.Path.{refl}
-use native.Mathlib.Omega.{arith}
 use borrow.Author.Tests.{le-leb, lt-leb}
 use Rattle.decoders.specs.ReadingLaws.{reads-nothing}
 use borrow.Author.Needs.{needs}

@@ -4,7 +4,7 @@ use Prim.Native.Nat.{_+_, _*_, _-_, _≤_}
 use native.Mathlib.Nat.{add-sub-cancel-left}
 use lib.ListN.{length, drop, length-drop}
 use lib.Seq.{length-take-le}
-use mathlib.Core.Path.{_≡_, refl}
+use mathlib.Core.Path.{refl}
 use Rattle.tape.specs.Forest.{_⧺_}
 use Rattle.meaning.specs.Field.{msds}
 use Rattle.meaning.specs.Array.{elementTrees}

@@ -1,5 +1,4 @@
 -- Two leaves, and then the object in front of them.
-use native.Mathlib.Omega.{arith}
 use Rattle.fields.specs.ElementLaws.{range-made}
 use borrow.Author.Needs.{needs}
 use Rattle.fields.proofs.array.range.Statement.{statement}

@@ -6,7 +6,6 @@ use lib.ListN
 use lib.ListN.{take, drop, length-drop}
 use lib.Seq.{length-take-le}
 use mathlib.Core.Path.{_≡_, refl, sym, _∙_}
-use Rattle.tape.specs.Forest.{size, _⧺_}
 use Rattle.meaning.specs.Field.{ranges}
 use Rattle.meaning.specs.Array.{elementTrees}
 use Rattle.meaning.specs.Frame.{rangeLength}

@@ -4,13 +4,6 @@ use borrow.Author.Needs.{needs}
 use Rattle.octets.specs.BigEndianLaws.{width-eight}
 use Rattle.octets.proofs.read.read_be.Statement.{statement}
 use Rattle.octets.proofs.read.read_be.Tie as tie
-use Rattle.octets.proofs.read.read_be.Reads as reads
-use Rattle.octets.proofs.read.read_be.Lts as lts
-use Rattle.octets.proofs.read.octet.Reads as octet-reads
-use Rattle.octets.proofs.read.read_be_u16.Reads as read-be-u16-reads
-use Rattle.octets.proofs.read.read_be_u24.Reads as read-be-u24-reads
-use Rattle.octets.proofs.read.read_be_u32.Reads as read-be-u32-reads
-use Rattle.octets.proofs.read.read_be_u64.Reads as read-be-u64-reads
 
 -- src/read.rt:54:14
 octet-requires : tie.Need-octet-requires

@@ -1,8 +1,7 @@
 -- An entry, out of its parts.
-use mathlib.Core.Path.{refl}
 use native.Mathlib.Omega.{arith}
 use lib.ListN.{length-drop}
-use Prim.Native.Nat.{ℕ, _+_}
+use Prim.Native.Nat.{ℕ}
 use Rattle.registry.specs.Registry.{numberOf}
 use Rattle.meaning.specs.AreaCallLaws.{number-low}
 use Rattle.meaning.specs.PlaceLaws.{part-rest}
