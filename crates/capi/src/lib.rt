@@ -6,6 +6,8 @@ use calls::cut_back;
 use calls::nest::nest_test;
 use calls::read;
 use octets::mask::mask_prefix;
+use subtlv::Call;
+use subtlv::area_call;
 use tape::Octet;
 use tape::Position;
 ghost use mathlib.Core.Path.{_≡_};
@@ -14,7 +16,8 @@ ghost use Rattle.outcome.specs.Call.{GivesNumbers};
 ghost use Rattle.registry.specs.NameCall.{nameCall};
 ghost use Rattle.calls.specs.Calls.{clearCall, cutBackCall, readCall, GivesRecord};
 ghost use Rattle.calls.specs.Nest.{nestTest, yesNo};
-ghost use Rattle.meaning.specs.AreaCall.{walkCall, pushCall};
+ghost use Rattle.meaning.specs.AreaCall.{areaCall, walkCall, pushCall};
+ghost use Rattle.subtlv.specs.Call.{shownBy};
 
 // Clears the bits of `prefix` after the first `bits` bits.
 #[no_mangle]
@@ -33,6 +36,21 @@ pub extern "C" fn wakkemosut_name(registry: u64, t: u64, out: &mut [u8], numbers
     *numbers = outcome.numbers();
 }
 
+// Either call on an area, and its outcome to `numbers`.
+fn numbered(
+    call: Call,
+    area: &[u8],
+    base: u64,
+    registry: u64,
+    tape: &mut [u64],
+    numbers: &mut [u64; 4],
+)
+    ensures { λ _. ⌜ GivesNumbers (areaCall (shownBy call) registry (now (area .entry)) base (now (tape .entry))) (now (numbers .exit)) (now (tape .exit)) ⌝ }
+{
+    let outcome = area_call(call, area, Octet(base as usize), registry, tape);
+    *numbers = outcome.numbers();
+}
+
 // Writes the records of an area's complete entries behind those that the tape has, and the outcome to `numbers`.
 #[no_mangle]
 pub extern "C" fn wakkemosut_walk(
@@ -44,8 +62,7 @@ pub extern "C" fn wakkemosut_walk(
 )
     ensures { λ _. ⌜ GivesNumbers (walkCall registry (now (area .entry)) base (now (tape .entry))) (now (numbers .exit)) (now (tape .exit)) ⌝ }
 {
-    let outcome = subtlv::walk(area, Octet(base as usize), registry, tape);
-    *numbers = outcome.numbers();
+    numbered(Call::Walk, area, base, registry, tape, numbers)
 }
 
 // Writes the same, and a `raw` record beside it for the octets that are left, if there are any.
@@ -59,8 +76,7 @@ pub extern "C" fn wakkemosut_push(
 )
     ensures { λ _. ⌜ GivesNumbers (pushCall registry (now (area .entry)) base (now (tape .entry))) (now (numbers .exit)) (now (tape .exit)) ⌝ }
 {
-    let outcome = subtlv::push(area, Octet(base as usize), registry, tape);
-    *numbers = outcome.numbers();
+    numbered(Call::Push, area, base, registry, tape, numbers)
 }
 
 // Writes the header of a tape without records, and the outcome to `numbers`.

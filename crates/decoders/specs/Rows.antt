@@ -1,8 +1,12 @@
 -- Readings that several types share, by the numbers of labels and shapes, and what stands before an SRv6 SID.
+use mathlib.Core.Bool.{cond}
 use mathlib.Core.List.{List}
 use Prim.Native.Nat.{ℕ, _+_, _/_, _%_}
+use lib.Dec.{eqb}
 use lib.ListN.{getD}
 use Rattle.octets.specs.BigEndian.{bigEndian}
+use Rattle.registry.specs.declared.Registry.{Registry}
+use Rattle.registry.specs.declared.Registry.the-variants.{Neighbor, Prefix, RouterCapability, Binding, Srv6Sid, Unregistered}
 use Rattle.tape.specs.Forest.{Forest, none, leaf, _⧺_}
 use Rattle.meaning.specs.Label
 use Rattle.meaning.specs.Tree.{content}
@@ -30,6 +34,19 @@ oneNumber label shape at width registry v base = given (at + width) v (took (at 
 abbrev pub oneAddress : ℕ → ℕ → ℕ → ℕ → List ℕ → ℕ → Reading
 oneAddress label shape width registry v base = given width v (took width (octetsAt label shape 0 width registry base))
 
+-- a number for one type, 0 for others
+abbrev pub forType : ℕ → ℕ → ℕ → ℕ
+forType kind one number = cond (eqb kind one) number 0
+
+-- the label of the octet between flags and SID, in the types that have one; 0 in others
+abbrev pub octetLabel : Registry → ℕ → ℕ
+octetLabel Neighbor kind = forType kind 31 17
+octetLabel Prefix kind = forType kind 3 18
+octetLabel RouterCapability kind = 0
+octetLabel Binding kind = forType kind 3 18
+octetLabel Srv6Sid kind = 0
+octetLabel Unregistered kind = 0
+
 -- flags, an octet, a SID
 abbrev pub octetAndSid : ℕ → ℕ → List ℕ → ℕ → Reading
 octetAndSid label registry v base =
@@ -49,9 +66,9 @@ abbrev pub endXHead : ℕ → List ℕ → ℕ → ℕ → Forest
 endXHead registry v base at =
     numberAt 16 0 at 1 registry v base ⧺ numberAt 18 0 (at + 1) 1 registry v base ⧺ numberAt 17 0 (at + 2) 1 registry v base ⧺ numberAt 28 1 (at + 3) 2 registry v base
 
--- neighbor system id, and then the same
-abbrev pub lanEndXHead : ℕ → List ℕ → ℕ → Forest
-lanEndXHead registry v base = octetsAt 20 6 0 6 registry base ⧺ endXHead registry v base 6
+-- the neighbor's system id, where it has octets
+abbrev pub systemId : ℕ → ℕ → ℕ → Forest
+systemId width registry base = cond (eqb width 0) none (octetsAt 20 6 0 width registry base)
 
 -- flags, endpoint behavior
 abbrev pub endHead : ℕ → List ℕ → ℕ → Forest

@@ -1,13 +1,13 @@
 // Registry 3: sub-TLVs of a SID/label binding (TLVs 149 and 150).
 use crate::Decoded;
 use crate::Taken;
-use crate::rows::octet_and_sid;
 use fields::Source;
 use fields::sid::sid;
 use registry::registries::Binding;
 use tape::Octet;
 use tape::Position;
 use tape::label::Label;
+ghost use mathlib.Core.Path.{_≡_};
 ghost use Prim.Native.Nat.{_+_, _<_, _^_};
 ghost use lib.ListN.{length};
 ghost use Rattle.meaning.specs.Table.{usual};
@@ -33,9 +33,9 @@ fn sid_label(value: &[u8], source: Source, tape: &mut [u64], position: Position)
     }
 }
 
-// A value by its type.
+// A value by its type; type 3 is read with other SIDs.
 pub fn binding(value: &[u8], kind: u8, base: Octet, tape: &mut [u64], at: Position) -> Decoded
-    requires { ⌜ (base .0 + length (now value) < 2 ^ 32) × (at .0 < 2 ^ 59) ⌝ }
+    requires { ⌜ (kind ≡ 3 → ⊥) × (base .0 + length (now value) < 2 ^ 32) × (at .0 < 2 ^ 59) ⌝ }
     ensures { λ r. ⌜ Reads (reading 3 kind (now (value .entry)) (base .0)) (now (tape .entry)) (now (tape .exit)) (at .0) r ⌝ }
 {
     let source = Source {
@@ -44,7 +44,6 @@ pub fn binding(value: &[u8], kind: u8, base: Octet, tape: &mut [u64], at: Positi
     };
     match kind {
         1 => sid_label(value, source, tape, at),
-        3 => octet_and_sid(value, source, Label::ALGORITHM, tape, at),
         _ => Decoded {
             taken: Taken::Nothing,
             next: at,

@@ -4,7 +4,6 @@ use crate::Taken;
 use crate::rows::flag_and_number;
 use crate::rows::ipv4;
 use crate::rows::ipv6;
-use crate::rows::octet_and_sid;
 use crate::rows::one_number24;
 use crate::rows::one_number32;
 use fields::Source;
@@ -27,7 +26,7 @@ ghost use lib.ListN.{length};
 ghost use Rattle.tape.specs.Laid.{Laid};
 ghost use Rattle.meaning.specs.Table.{usual};
 ghost use Rattle.decoders.specs.Reading.{Reads, readingOf, reading};
-ghost use Rattle.decoders.specs.Rows.{endXHead, lanEndXHead};
+ghost use Rattle.decoders.specs.Rows.{systemId, endXHead};
 
 // Link local and remote identifiers (RFC 5307, section 1.1).
 fn link_identifiers(value: &[u8], source: Source, tape: &mut [u64], position: Position) -> Decoded
@@ -158,32 +157,29 @@ pub fn end_x_head(
     )
 }
 
-// What stands before the SID of an SRv6 LAN End.X SID (RFC 9352, section 8.2): Neighbor System-ID, then as End.X.
-pub fn lan_end_x_head(
-    value: &[u8],
-    source: Source,
-    tape: &mut [u64],
-    position: Position,
-) -> Position
-    requires { ⌜ (11 ≤ length (now value)) × (source .base .0 + length (now value) < 2 ^ 32) × (position .0 < 2 ^ 59) ⌝ }
-    ensures { λ r. ⌜ Laid (lanEndXHead (source .registry) (now (value .entry)) (source .base .0)) (now (tape .entry)) (now (tape .exit)) (position .0) (r .0) ⌝ }
+// Lays the neighbor's system id, which stands first on a LAN (RFC 9352, section 8.2), where it has octets.
+pub fn system_id(source: Source, width: usize, tape: &mut [u64], position: Position) -> Position
+    requires { ⌜ (source .base .0 + width < 2 ^ 32) × (position .0 < 2 ^ 60) ⌝ }
+    ensures { λ r. ⌜ Laid (systemId width (source .registry) (source .base .0)) (now (tape .entry)) (now (tape .exit)) (position .0) (r .0) ⌝ }
 {
-    let second = part(
+    if width == 0 {
+        return position;
+    }
+    part(
         source,
         Label::NEIGHBOR_SYSTEM_ID,
         Shape::BYTES,
         0,
-        6,
+        width,
         0,
         tape,
         position,
-    );
-    end_x_head(value, source, 6, tape, second)
+    )
 }
 
-// A value by its type; the types 43 and 44 hold an area of their own.
+// A value by its type; type 31 is read with other SIDs, the types 43 and 44 hold an area of their own.
 pub fn neighbor(value: &[u8], kind: u8, base: Octet, tape: &mut [u64], at: Position) -> Decoded
-    requires { ⌜ (kind ≡ 43 → ⊥) × (kind ≡ 44 → ⊥) × (base .0 + length (now value) < 2 ^ 32) × (at .0 < 2 ^ 59) ⌝ }
+    requires { ⌜ (kind ≡ 31 → ⊥) × (kind ≡ 43 → ⊥) × (kind ≡ 44 → ⊥) × (base .0 + length (now value) < 2 ^ 32) × (at .0 < 2 ^ 59) ⌝ }
     ensures { λ r. ⌜ Reads (reading 0 kind (now (value .entry)) (base .0)) (now (tape .entry)) (now (tape .exit)) (at .0) r ⌝ }
 {
     let source = Source {
@@ -201,7 +197,6 @@ pub fn neighbor(value: &[u8], kind: u8, base: Octet, tape: &mut [u64], at: Posit
         12 => ipv6(value, source, Label::IPV6_INTERFACE_ADDRESS, tape, at),
         13 => ipv6(value, source, Label::IPV6_NEIGHBOR_ADDRESS, tape, at),
         18 => one_number24(value, source, Label::TE_DEFAULT_METRIC, 0, tape, at),
-        31 => octet_and_sid(value, source, Label::WEIGHT, tape, at),
         32 => lan_adj_sid(value, source, tape, at),
         33 => flag_and_number(value, source, Label::DELAY, tape, at),
         34 => min_max_delay(value, source, tape, at),

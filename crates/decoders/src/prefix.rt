@@ -4,7 +4,6 @@ use crate::Taken;
 use crate::rows::ipv4;
 use crate::rows::ipv6;
 use crate::rows::number_array;
-use crate::rows::octet_and_sid;
 use fields::Source;
 use fields::part::flag;
 use fields::part::number8;
@@ -79,9 +78,9 @@ pub fn end_head(value: &[u8], source: Source, tape: &mut [u64], position: Positi
     number16(value, source, Label::ENDPOINT_BEHAVIOR, 1, tape, second)
 }
 
-// A value by its type; type 5 holds an area of its own.
+// A value by its type; type 3 is read with other SIDs, type 5 holds an area of its own.
 pub fn prefix(value: &[u8], kind: u8, base: Octet, tape: &mut [u64], at: Position) -> Decoded
-    requires { ⌜ (kind ≡ 5 → ⊥) × (base .0 + length (now value) < 2 ^ 32) × (at .0 < 2 ^ 59) ⌝ }
+    requires { ⌜ (kind ≡ 3 → ⊥) × (kind ≡ 5 → ⊥) × (base .0 + length (now value) < 2 ^ 32) × (at .0 < 2 ^ 59) ⌝ }
     ensures { λ r. ⌜ Reads (reading 1 kind (now (value .entry)) (base .0)) (now (tape .entry)) (now (tape .exit)) (at .0) r ⌝ }
 {
     let source = Source {
@@ -91,7 +90,6 @@ pub fn prefix(value: &[u8], kind: u8, base: Octet, tape: &mut [u64], at: Positio
     match kind {
         1 => tags(value, source, Shape::U32, 4, tape, at),
         2 => tags(value, source, Shape::U64, 8, tape, at),
-        3 => octet_and_sid(value, source, Label::ALGORITHM, tape, at),
         4 => prefix_attributes(value, source, tape, at),
         11 => ipv4(value, source, Label::IPV4_SOURCE_ROUTER_ID, tape, at),
         12 => ipv6(value, source, Label::IPV6_SOURCE_ROUTER_ID, tape, at),

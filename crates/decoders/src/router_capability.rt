@@ -112,11 +112,10 @@ pub fn router_capability(
         base,
     };
     match kind {
-        2 => flags_and_ranges(value, source, tape, at),
+        2 | 22 => flags_and_ranges(value, source, tape, at),
         11 => ipv4(value, source, Label::IPV4_TE_ROUTER_ID, tape, at),
         12 => ipv6(value, source, Label::IPV6_TE_ROUTER_ID, tape, at),
         19 => algorithms(value, source, tape, at),
-        22 => flags_and_ranges(value, source, tape, at),
         23 => node_msd(value, source, tape, at),
         24 => preference(value, source, tape, at),
         _ => Decoded {

@@ -9,6 +9,7 @@ use fields::part::number24;
 use fields::part::number32;
 use fields::part::part;
 use fields::sid::sid;
+use registry::Registry;
 use tape::Position;
 use tape::label::Label;
 use tape::shape::Shape;
@@ -18,7 +19,7 @@ ghost use Prim.Native.Nat.{_+_, _≤_, _<_, _^_};
 ghost use lib.ListN.{length};
 ghost use Rattle.octets.specs.BigEndian.{isWidth};
 ghost use Rattle.decoders.specs.Reading.{Reads};
-ghost use Rattle.decoders.specs.Rows.{oneNumber, oneAddress, octetAndSid, flagAndNumber, numberArray};
+ghost use Rattle.decoders.specs.Rows.{oneNumber, oneAddress, forType, octetLabel, octetAndSid, flagAndNumber, numberArray};
 
 // One number of 24 bits, from `at` on.
 pub fn one_number24(
@@ -121,6 +122,31 @@ pub fn ipv6(
     ensures { λ r. ⌜ Reads (oneAddress label 5 16 (source .registry) (now (value .entry)) (source .base .0)) (now (tape .entry)) (now (tape .exit)) (position .0) r ⌝ }
 {
     one_address(value, source, label, Shape::IPV6, 16, tape, position)
+}
+
+// A number for one type, 0 for others.
+pub fn for_type(kind: u8, one: u8, number: u8) -> u8
+    ensures { λ r. ⌜ r ≡ forType kind one number ⌝ }
+{
+    if kind == one {
+        return number;
+    }
+    0
+}
+
+// The octet between flags and SID, by its label, in Adj-SID (RFC 8667, section 2.2.1) and Prefix-SID (sections 2.1 and 2.4.4);
+// 0 in the types that are not read so.
+pub fn octet_label(registry: Registry, kind: u8) -> u8
+    ensures { λ r. ⌜ r ≡ octetLabel registry kind ⌝ }
+{
+    match registry {
+        Registry::Neighbor => for_type(kind, 31, Label::WEIGHT),
+        Registry::Prefix => for_type(kind, 3, Label::ALGORITHM),
+        Registry::RouterCapability => 0,
+        Registry::Binding => for_type(kind, 3, Label::ALGORITHM),
+        Registry::Srv6Sid => 0,
+        Registry::Unregistered => 0,
+    }
 }
 
 // Flags | an octet | SID.

@@ -22,7 +22,7 @@ ghost use Rattle.fields.specs.Shows.{Shows};
 ghost use Rattle.subtlv.specs.Call.{shownBy};
 
 // Which of the two calls it is: they differ in the octets that the walk does not cover.
-enum Call {
+pub enum Call {
     Walk,
     Push,
 }
@@ -92,8 +92,8 @@ fn fitted(call: Call, area: &[u8], base: Octet, registry: Registry, tape: &mut [
     append(call, area, base, registry, tape)
 }
 
-// The checks 1 to 4 in their order, and then 5 or the records.
-fn checked(call: Call, area: &[u8], base: Octet, registry: u64, tape: &mut [u64]) -> Outcome
+// Either call: the checks 1 to 4 in their order, and then 5 or the records.
+pub fn area_call(call: Call, area: &[u8], base: Octet, registry: u64, tape: &mut [u64]) -> Outcome
     ensures { λ r. ⌜ Gives (areaCall (shownBy call) registry (now (area .entry)) (base .0) (now (tape .entry))) r (now (tape .exit)) ⌝ }
 {
     let Found::Known(known) = Registry::of(registry) else {
@@ -116,12 +116,12 @@ fn checked(call: Call, area: &[u8], base: Octet, registry: u64, tape: &mut [u64]
 pub fn walk(area: &[u8], base: Octet, registry: u64, tape: &mut [u64]) -> Outcome
     ensures { λ r. ⌜ Gives (walkCall registry (now (area .entry)) (base .0) (now (tape .entry))) r (now (tape .exit)) ⌝ }
 {
-    checked(Call::Walk, area, base, registry, tape)
+    area_call(Call::Walk, area, base, registry, tape)
 }
 
 // The call push: the walk, and one `raw` record beside it for the octets that it does not cover, if there are any.
 pub fn push(area: &[u8], base: Octet, registry: u64, tape: &mut [u64]) -> Outcome
     ensures { λ r. ⌜ Gives (pushCall registry (now (area .entry)) (base .0) (now (tape .entry))) r (now (tape .exit)) ⌝ }
 {
-    checked(Call::Push, area, base, registry, tape)
+    area_call(Call::Push, area, base, registry, tape)
 }

@@ -1,9 +1,12 @@
 -- Values that hold an area of their own: what stands before it, and the area.
 use mathlib.Core.Path.{_≡_, refl, sym, ap, _∙_}
+use mathlib.Core.Bool.{Bool, true, false, cond}
 use mathlib.Core.List.{List}
-use Prim.Native.Nat.{ℕ, _+_, _-_, _≤_}
+use Prim.Native.Nat.{ℕ, _+_, _-_, _≤_, _<_}
 use native.Mathlib.Nat.{add-assoc, add-sub-cancel-left}
 use native.Mathlib.Omega.{arith}
+use native.Mathlib.Decide.{decLe}
+use lib.Dec.{eqb}
 use lib.ListN.{length, getD, take, drop, length-drop}
 use lib.Seq.{length-take-le}
 use Rattle.registry.specs.Registry.{numberOf}
@@ -17,15 +20,16 @@ use Rattle.meaning.specs.Frame.{covered}
 use Rattle.meaning.specs.PlaceLaws.{part-rest}
 use Rattle.meaning.specs.Field.{Field, tail, push}
 use Rattle.meaning.specs.Tail.{inner}
-use Rattle.meaning.specs.Table.{usual, table}
+use Rattle.meaning.specs.Table.{usual, table, fieldsOf}
 use Rattle.meaning.specs.TableLaws.{leastIn, fieldsIn, OneRow}
-use Rattle.meaning.specs.Value.{fieldEnd, fieldTrees}
+use Rattle.meaning.specs.Value.{fieldEnd, fieldTrees, fieldsTrees, taken}
 use Rattle.meaning.specs.ValueLaws.{tail-inner, Alone, Inner}
 use Rattle.meaning.specs.Area.{walked, pushed}
 use Rattle.fields.specs.Shows.{Shows}
 use Rattle.fields.specs.declared.Shown.{Shown}
 use Rattle.decoders.specs.Reading.{Reading, took, readingOf, Reads}
 use Rattle.decoders.specs.ReadingLaws.{reads-as, row-fields}
+use Rattle.decoders.specs.Rows.{octetsAt, forType, systemId, endXHead}
 use Rattle.decoders.specs.declared.Decoded.{Decoded}
 use Rattle.decoders.specs.declared.Taken.the-variants.{Octets}
 use Rattle.walk.specs.Rest.{Room}
@@ -48,6 +52,32 @@ module _ (k registry : ℕ) (v : List ℕ) (base : ℕ) (row : OneRow registry k
   -- the head, and then the field
   pub nested-made : {t u w : List ℕ} {at next : ℕ} {d : Decoded} → Laid head t u at next → Reads (took (fieldEnd v f) trees) u w next d → Reads (readingOf registry v base (usual registry k v)) t w at d
   nested-made laid reads = reads-as nested-is (record { taken = reads .taken; laid = laid-then laid (reads .laid) })
+
+-- a system id is one record at most
+pub system-id-size : (id registry base : ℕ) → size (systemId id registry base) ≤ 1
+system-id-size id registry base = go (eqb id 0)
+  where
+    go : (is : Bool) → size (cond is none (octetsAt 20 6 0 id registry base)) ≤ 1
+    go true = omega arith
+    go false = omega arith
+
+-- the types 43 and 44: the neighbor's system id, of that many octets, the head of an End.X SID, and its tail
+pub record EndX (kind id : ℕ) (v : List ℕ) (base : ℕ) : Type 0 where
+  pub row : OneRow 0 kind v
+  pub least : leastIn table 0 kind ≡ id + 21
+  pub is : readingOf 0 v base (fieldsIn table 0 kind)
+      ≡ took (fieldEnd v (tail (id + 5))) ((systemId id 0 base ⧺ endXHead 0 v base id) ⧺ (fieldTrees (walked usual) 0 v base (tail (id + 5)) ⧺ none))
+
+pub end-x : (kind id : ℕ) (v : List ℕ) (base : ℕ) → 43 ≤ kind → kind < 45 → id ≡ forType kind 44 6 → EndX kind id v base
+unfolding usual fieldsOf table leastIn fieldsIn readingOf fieldsTrees fieldTrees taken fieldEnd _⧺_
+end-x kind id v base from upto there = go (decLe kind 43)
+  where
+    at : (k : ℕ) → kind ≡ k → EndX k (forType k 44 6) v base → EndX kind id v base
+    at k e x = rw (there, e) x
+
+    go : Dec (kind ≤ 43) → EndX kind id v base
+    go (yes low) = at 43 (omega arith) (record { row = refl; least = refl; is = refl })
+    go (no high) = at 44 (omega arith) (record { row = refl; least = refl; is = refl })
 
 -- the SRv6 tail of a value v from a place on
 module _ (registry : ℕ) (v : List ℕ) (base at : ℕ) {t u : List ℕ} {position next : ℕ}

@@ -3,11 +3,14 @@ use decoders::Decoded;
 use decoders::Taken;
 use decoders::binding::binding;
 use decoders::neighbor::end_x_head;
-use decoders::neighbor::lan_end_x_head;
 use decoders::neighbor::neighbor;
+use decoders::neighbor::system_id;
 use decoders::prefix::end_head;
 use decoders::prefix::prefix;
 use decoders::router_capability::router_capability;
+use decoders::rows::for_type;
+use decoders::rows::octet_and_sid;
+use decoders::rows::octet_label;
 use decoders::srv6_sid::srv6_sid;
 use fields::Shown;
 use fields::Source;
@@ -23,6 +26,7 @@ use tape::Octet;
 use tape::Position;
 use tape::label::Label;
 use tape::shape::Shape;
+ghost use mathlib.Core.Path.{_≡_};
 ghost use Prim.Native.Nat.{_+_, _≤_, _<_, _^_};
 ghost use lib.ListN.{length, drop};
 ghost use Rattle.registry.specs.Registry.{numberOf};
@@ -134,9 +138,9 @@ fn tail(value: &[u8], source: Source, at: usize, tape: &mut [u64], position: Pos
     }
 }
 
-// A value of registry 0, by its type.
+// A value of registry 0, by its type. The types 43 and 44 differ in the neighbor's system id, 6 octets that type 44 has in front.
 fn decode_neighbor(value: &[u8], kind: u8, base: Octet, tape: &mut [u64], at: Position) -> Decoded
-    requires { ⌜ Room (reading 0 kind (now value) (base .0) .found) (length (now value)) (base .0) (at .0) ⌝ }
+    requires { ⌜ (kind ≡ 31 → ⊥) × Room (reading 0 kind (now value) (base .0) .found) (length (now value)) (base .0) (at .0) ⌝ }
     ensures { λ r. ⌜ Reads (reading 0 kind (now (value .entry)) (base .0)) (now (tape .entry)) (now (tape .exit)) (at .0) r ⌝ }
 {
     let n = value.len();
@@ -145,25 +149,17 @@ fn decode_neighbor(value: &[u8], kind: u8, base: Octet, tape: &mut [u64], at: Po
         base,
     };
     match kind {
-        43 => {
-            if n < 21 {
+        43 | 44 => {
+            let id = for_type(kind, 44, 6) as usize;
+            if n < id + 21 {
                 return Decoded {
                     taken: Taken::Nothing,
                     next: at,
                 };
             }
-            let next = end_x_head(value, source, 0, tape, at);
-            tail(value, source, 5, tape, next)
-        }
-        44 => {
-            if n < 27 {
-                return Decoded {
-                    taken: Taken::Nothing,
-                    next: at,
-                };
-            }
-            let next = lan_end_x_head(value, source, tape, at);
-            tail(value, source, 11, tape, next)
+            let second = system_id(source, id, tape, at);
+            let next = end_x_head(value, source, id, tape, second);
+            tail(value, source, id + 5, tape, next)
         }
         _ => neighbor(value, kind, base, tape, at),
     }
@@ -171,7 +167,7 @@ fn decode_neighbor(value: &[u8], kind: u8, base: Octet, tape: &mut [u64], at: Po
 
 // A value of registry 1, by its type.
 fn decode_prefix(value: &[u8], kind: u8, base: Octet, tape: &mut [u64], at: Position) -> Decoded
-    requires { ⌜ Room (reading 1 kind (now value) (base .0) .found) (length (now value)) (base .0) (at .0) ⌝ }
+    requires { ⌜ (kind ≡ 3 → ⊥) × Room (reading 1 kind (now value) (base .0) .found) (length (now value)) (base .0) (at .0) ⌝ }
     ensures { λ r. ⌜ Reads (reading 1 kind (now (value .entry)) (base .0)) (now (tape .entry)) (now (tape .exit)) (at .0) r ⌝ }
 {
     let n = value.len();
@@ -236,7 +232,7 @@ fn decode_router_capability(
     }
 }
 
-// A value, by its registry.
+// A value: flags, an octet and a SID in the types that several registries read so; otherwise by its registry.
 fn decode(
     value: &[u8],
     kind: u8,
@@ -248,6 +244,14 @@ fn decode(
     requires { ⌜ Room (reading (numberOf registry) kind (now value) (base .0) .found) (length (now value)) (base .0) (at .0) ⌝ }
     ensures { λ r. ⌜ Reads (reading (numberOf registry) kind (now (value .entry)) (base .0)) (now (tape .entry)) (now (tape .exit)) (at .0) r ⌝ }
 {
+    let label = octet_label(registry, kind);
+    if 0 < label {
+        let source = Source {
+            registry: registry.number() as u8,
+            base,
+        };
+        return octet_and_sid(value, source, label, tape, at);
+    }
     match registry {
         Registry::Neighbor => decode_neighbor(value, kind, base, tape, at),
         Registry::Prefix => decode_prefix(value, kind, base, tape, at),

@@ -16,25 +16,15 @@ cast-t7 c = search needs
 sid-label-requires : tie.Need-sid-label-requires
 sid-label-requires c κs = search needs
 
-octet-and-sid-requires : tie.Need-octet-and-sid-requires
-octet-and-sid-requires c κs = search needs
-
 same-length : tie.Need-same-length
 same-length c = search needs
 
 returns : tie.Need-returns
 returns c = let g = c .before .before .before .before .before .before .before .args in let v = g .value .now in of-type 3 1 (g .kind) v (g .base .0) (c .before .before .before .before .match .keys1) (c .before .before .sid-label .ensures)
 
-same-length-2 : tie.Need-same-length-2
-same-length-2 c = search needs
-
 returns-2 : tie.Need-returns-2
-unfolding usual fieldsOf table leastIn fieldsIn readingOf fieldsTrees fieldTrees taken fieldEnd _⧺_
-returns-2 c = let g = c .before .before .before .before .before .before .before .args in let v = g .value .now in of-type 3 3 (g .kind) v (g .base .0) (c .before .before .before .before .match .keys2) (row-given 3 3 3 v (g .base .0) refl (c .before .before .octet-and-sid .ensures))
-
-returns-3 : tie.Need-returns-3
 unfolding table
-returns-3 c = let g = c .before .before .before .args in let v = g .value .now in let r = c .match .rest in of-unknown 3 (g .kind) v (g .base .0) (r .1, (r .0 .1, tt))
+returns-2 c = let g = c .before .before .before .args in let v = g .value .now in let r = c .match .rest in of-unknown 3 (g .kind) v (g .base .0) (c .before .before .before .pre .0, (r .1, tt))
 
 pub binding-spec : {M : Type 1} → statement M
 binding-spec =
@@ -42,9 +32,6 @@ binding-spec =
     (tie.spec
     cast-t7
     sid-label-requires
-    octet-and-sid-requires
     same-length
     returns
-    same-length-2
-    returns-2
-    returns-3)
+    returns-2)

@@ -45,9 +45,6 @@ ipv6-requires-2 c κs = search needs
 one-number24-requires : tie.Need-one-number24-requires
 one-number24-requires c κs = search needs
 
-octet-and-sid-requires : tie.Need-octet-and-sid-requires
-octet-and-sid-requires c κs = search needs
-
 lan-adj-sid-requires : tie.Need-lan-adj-sid-requires
 lan-adj-sid-requires c κs = search needs
 
@@ -138,56 +135,49 @@ same-length-11 : tie.Need-same-length-11
 same-length-11 c = search needs
 
 returns-11 : tie.Need-returns-11
-unfolding usual fieldsOf table leastIn fieldsIn readingOf fieldsTrees fieldTrees taken fieldEnd _⧺_
-returns-11 c = let g = c .before .before .before .before .before .before .before .args in let v = g .value .now in of-type 0 31 (g .kind) v (g .base .0) (c .before .before .before .before .match .keys11) (row-given 0 31 0 v (g .base .0) refl (c .before .before .octet-and-sid .ensures))
+returns-11 c = let g = c .before .before .before .before .before .before .before .args in let v = g .value .now in of-type 0 32 (g .kind) v (g .base .0) (c .before .before .before .before .match .keys11) (c .before .before .lan-adj-sid .ensures)
 
 same-length-12 : tie.Need-same-length-12
 same-length-12 c = search needs
 
 returns-12 : tie.Need-returns-12
-returns-12 c = let g = c .before .before .before .before .before .before .before .args in let v = g .value .now in of-type 0 32 (g .kind) v (g .base .0) (c .before .before .before .before .match .keys12) (c .before .before .lan-adj-sid .ensures)
+unfolding usual fieldsOf table leastIn fieldsIn readingOf fieldsTrees fieldTrees taken fieldEnd _⧺_
+returns-12 c = let g = c .before .before .before .before .before .before .before .args in let v = g .value .now in of-type 0 33 (g .kind) v (g .base .0) (c .before .before .before .before .match .keys12) (row-given 0 33 0 v (g .base .0) refl (c .before .before .flag-and-number .ensures))
 
 same-length-13 : tie.Need-same-length-13
 same-length-13 c = search needs
 
 returns-13 : tie.Need-returns-13
-unfolding usual fieldsOf table leastIn fieldsIn readingOf fieldsTrees fieldTrees taken fieldEnd _⧺_
-returns-13 c = let g = c .before .before .before .before .before .before .before .args in let v = g .value .now in of-type 0 33 (g .kind) v (g .base .0) (c .before .before .before .before .match .keys13) (row-given 0 33 0 v (g .base .0) refl (c .before .before .flag-and-number .ensures))
+returns-13 c = let g = c .before .before .before .before .before .before .before .args in let v = g .value .now in of-type 0 34 (g .kind) v (g .base .0) (c .before .before .before .before .match .keys13) (c .before .before .min-max-delay .ensures)
 
 same-length-14 : tie.Need-same-length-14
 same-length-14 c = search needs
 
 returns-14 : tie.Need-returns-14
-returns-14 c = let g = c .before .before .before .before .before .before .before .args in let v = g .value .now in of-type 0 34 (g .kind) v (g .base .0) (c .before .before .before .before .match .keys14) (c .before .before .min-max-delay .ensures)
+unfolding usual fieldsOf table leastIn fieldsIn readingOf fieldsTrees fieldTrees taken fieldEnd _⧺_
+returns-14 c = let g = c .before .before .before .before .before .before .before .args in let v = g .value .now in of-type 0 35 (g .kind) v (g .base .0) (c .before .before .before .before .match .keys14) (row-given 0 35 0 v (g .base .0) refl (c .before .before .one-number242 .ensures))
 
 same-length-15 : tie.Need-same-length-15
 same-length-15 c = search needs
 
 returns-15 : tie.Need-returns-15
 unfolding usual fieldsOf table leastIn fieldsIn readingOf fieldsTrees fieldTrees taken fieldEnd _⧺_
-returns-15 c = let g = c .before .before .before .before .before .before .before .args in let v = g .value .now in of-type 0 35 (g .kind) v (g .base .0) (c .before .before .before .before .match .keys15) (row-given 0 35 0 v (g .base .0) refl (c .before .before .one-number242 .ensures))
+returns-15 c = let g = c .before .before .before .before .before .before .before .args in let v = g .value .now in of-type 0 36 (g .kind) v (g .base .0) (c .before .before .before .before .match .keys15) (row-given 0 36 0 v (g .base .0) refl (c .before .before .flag-and-number2 .ensures))
 
 same-length-16 : tie.Need-same-length-16
 same-length-16 c = search needs
 
 returns-16 : tie.Need-returns-16
 unfolding usual fieldsOf table leastIn fieldsIn readingOf fieldsTrees fieldTrees taken fieldEnd _⧺_
-returns-16 c = let g = c .before .before .before .before .before .before .before .args in let v = g .value .now in of-type 0 36 (g .kind) v (g .base .0) (c .before .before .before .before .match .keys16) (row-given 0 36 0 v (g .base .0) refl (c .before .before .flag-and-number2 .ensures))
-
-same-length-17 : tie.Need-same-length-17
-same-length-17 c = search needs
+returns-16 c = let g = c .before .before .before .before .before .before .before .before .before .args in let v = g .value .now in let r = c .before .before .before .before .before .before .match .rest in reads-as (ap (readingOf 0 v (g .base .0)) (bandwidth-types (g .kind) v (past-36 (g .kind) (c .before .before .before .before .before .if1 .left) (r .0 .0 .0 .0 .1) (r .0 .0 .0 .1) (r .0 .0 .1) (r .0 .1) (r .1)) (c .before .before .before .before .if2 .taken))) (row-given 0 37 0 v (g .base .0) refl (c .before .before .one-number324 .ensures))
 
 returns-17 : tie.Need-returns-17
-unfolding usual fieldsOf table leastIn fieldsIn readingOf fieldsTrees fieldTrees taken fieldEnd _⧺_
-returns-17 c = let g = c .before .before .before .before .before .before .before .before .before .args in let v = g .value .now in let r = c .before .before .before .before .before .before .match .rest in reads-as (ap (readingOf 0 v (g .base .0)) (bandwidth-types (g .kind) v (past-36 (g .kind) (c .before .before .before .before .before .if1 .left) (r .0 .0 .0 .0 .0 .1) (r .0 .0 .0 .0 .1) (r .0 .0 .0 .1) (r .0 .0 .1) (r .0 .1) (r .1)) (c .before .before .before .before .if2 .taken))) (row-given 0 37 0 v (g .base .0) refl (c .before .before .one-number324 .ensures))
+unfolding table
+returns-17 c = let g = c .before .before .before .before .args in let v = g .value .now in let r = c .before .match .rest in of-unknown 0 (g .kind) v (g .base .0) (r .0 .0 .0 .0 .0 .0 .0 .0 .0 .0 .0 .0 .0 .0 .1, (r .0 .0 .0 .0 .0 .0 .0 .0 .0 .0 .1, (r .0 .0 .0 .0 .0 .0 .0 .0 .0 .1, (r .0 .0 .0 .0 .0 .0 .0 .0 .0 .0 .0 .0 .0 .1, (r .0 .0 .0 .0 .0 .0 .0 .0 .0 .0 .0 .0 .1, (r .0 .0 .0 .0 .0 .0 .0 .0 .0 .0 .0 .1, (r .0 .0 .0 .0 .0 .0 .0 .1, (r .0 .0 .0 .0 .0 .0 .1, (r .0 .0 .0 .0 .0 .0 .0 .0 .1, (r .0 .0 .0 .0 .0 .1, ((c .before .before .before .before .pre .0), (r .0 .0 .0 .0 .1, (r .0 .0 .0 .1, (r .1, (r .0 .0 .1, (r .0 .1, (below (g .kind) 37 (omega arith), (below (g .kind) 38 (omega arith), (below (g .kind) 39 (omega arith), (c .before .before .before .before .pre .1, (c .before .before .before .before .pre .2, tt)))))))))))))))))))))
 
 returns-18 : tie.Need-returns-18
 unfolding table
-returns-18 c = let g = c .before .before .before .before .args in let v = g .value .now in let r = c .before .match .rest in of-unknown 0 (g .kind) v (g .base .0) (r .0 .0 .0 .0 .0 .0 .0 .0 .0 .0 .0 .0 .0 .0 .0 .1, (r .0 .0 .0 .0 .0 .0 .0 .0 .0 .0 .0 .1, (r .0 .0 .0 .0 .0 .0 .0 .0 .0 .0 .1, (r .0 .0 .0 .0 .0 .0 .0 .0 .0 .0 .0 .0 .0 .0 .1, (r .0 .0 .0 .0 .0 .0 .0 .0 .0 .0 .0 .0 .0 .1, (r .0 .0 .0 .0 .0 .0 .0 .0 .0 .0 .0 .0 .1, (r .0 .0 .0 .0 .0 .0 .0 .0 .1, (r .0 .0 .0 .0 .0 .0 .0 .1, (r .0 .0 .0 .0 .0 .0 .0 .0 .0 .1, (r .0 .0 .0 .0 .0 .0 .1, (r .0 .0 .0 .0 .0 .1, (r .0 .0 .0 .0 .1, (r .0 .0 .0 .1, (r .1, (r .0 .0 .1, (r .0 .1, (below (g .kind) 37 (omega arith), (below (g .kind) 38 (omega arith), (below (g .kind) 39 (omega arith), (c .before .before .before .before .pre .0, (c .before .before .before .before .pre .1, tt)))))))))))))))))))))
-
-returns-19 : tie.Need-returns-19
-unfolding table
-returns-19 c = let g = c .before .before .before .before .before .args in let v = g .value .now in let r = c .before .before .match .rest in of-unknown 0 (g .kind) v (g .base .0) (r .0 .0 .0 .0 .0 .0 .0 .0 .0 .0 .0 .0 .0 .0 .0 .1, (r .0 .0 .0 .0 .0 .0 .0 .0 .0 .0 .0 .1, (r .0 .0 .0 .0 .0 .0 .0 .0 .0 .0 .1, (r .0 .0 .0 .0 .0 .0 .0 .0 .0 .0 .0 .0 .0 .0 .1, (r .0 .0 .0 .0 .0 .0 .0 .0 .0 .0 .0 .0 .0 .1, (r .0 .0 .0 .0 .0 .0 .0 .0 .0 .0 .0 .0 .1, (r .0 .0 .0 .0 .0 .0 .0 .0 .1, (r .0 .0 .0 .0 .0 .0 .0 .1, (r .0 .0 .0 .0 .0 .0 .0 .0 .0 .1, (r .0 .0 .0 .0 .0 .0 .1, (r .0 .0 .0 .0 .0 .1, (r .0 .0 .0 .0 .1, (r .0 .0 .0 .1, (r .1, (r .0 .0 .1, (r .0 .1, (above (g .kind) 37 (omega arith), (above (g .kind) 38 (omega arith), (above (g .kind) 39 (omega arith), (c .before .before .before .before .before .pre .0, (c .before .before .before .before .before .pre .1, tt)))))))))))))))))))))
+returns-18 c = let g = c .before .before .before .before .before .args in let v = g .value .now in let r = c .before .before .match .rest in of-unknown 0 (g .kind) v (g .base .0) (r .0 .0 .0 .0 .0 .0 .0 .0 .0 .0 .0 .0 .0 .0 .1, (r .0 .0 .0 .0 .0 .0 .0 .0 .0 .0 .1, (r .0 .0 .0 .0 .0 .0 .0 .0 .0 .1, (r .0 .0 .0 .0 .0 .0 .0 .0 .0 .0 .0 .0 .0 .1, (r .0 .0 .0 .0 .0 .0 .0 .0 .0 .0 .0 .0 .1, (r .0 .0 .0 .0 .0 .0 .0 .0 .0 .0 .0 .1, (r .0 .0 .0 .0 .0 .0 .0 .1, (r .0 .0 .0 .0 .0 .0 .1, (r .0 .0 .0 .0 .0 .0 .0 .0 .1, (r .0 .0 .0 .0 .0 .1, ((c .before .before .before .before .before .pre .0), (r .0 .0 .0 .0 .1, (r .0 .0 .0 .1, (r .1, (r .0 .0 .1, (r .0 .1, (above (g .kind) 37 (omega arith), (above (g .kind) 38 (omega arith), (above (g .kind) 39 (omega arith), (c .before .before .before .before .before .pre .1, (c .before .before .before .before .before .pre .2, tt)))))))))))))))))))))
 
 pub neighbor-spec : {M : Type 1} → statement M
 neighbor-spec =
@@ -204,7 +194,6 @@ neighbor-spec =
     ipv6-requires
     ipv6-requires-2
     one-number24-requires
-    octet-and-sid-requires
     lan-adj-sid-requires
     flag-and-number-requires
     min-max-delay-requires
@@ -243,7 +232,5 @@ neighbor-spec =
     returns-15
     same-length-16
     returns-16
-    same-length-17
     returns-17
-    returns-18
-    returns-19)
+    returns-18)

@@ -23,9 +23,6 @@ tags-requires c κs = search needs
 tags-requires-2 : tie.Need-tags-requires-2
 tags-requires-2 c κs = search needs
 
-octet-and-sid-requires : tie.Need-octet-and-sid-requires
-octet-and-sid-requires c κs = search needs
-
 prefix-attributes-requires : tie.Need-prefix-attributes-requires
 prefix-attributes-requires c κs = search needs
 
@@ -53,32 +50,25 @@ same-length-3 : tie.Need-same-length-3
 same-length-3 c = search needs
 
 returns-3 : tie.Need-returns-3
-unfolding usual fieldsOf table leastIn fieldsIn readingOf fieldsTrees fieldTrees taken fieldEnd _⧺_
-returns-3 c = let g = c .before .before .before .before .before .before .before .args in let v = g .value .now in of-type 1 3 (g .kind) v (g .base .0) (c .before .before .before .before .match .keys3) (row-given 1 3 1 v (g .base .0) refl (c .before .before .octet-and-sid .ensures))
+returns-3 c = let g = c .before .before .before .before .before .before .before .args in let v = g .value .now in of-type 1 4 (g .kind) v (g .base .0) (c .before .before .before .before .match .keys3) (c .before .before .prefix-attributes .ensures)
 
 same-length-4 : tie.Need-same-length-4
 same-length-4 c = search needs
 
 returns-4 : tie.Need-returns-4
-returns-4 c = let g = c .before .before .before .before .before .before .before .args in let v = g .value .now in of-type 1 4 (g .kind) v (g .base .0) (c .before .before .before .before .match .keys4) (c .before .before .prefix-attributes .ensures)
+unfolding usual fieldsOf table leastIn fieldsIn readingOf fieldsTrees fieldTrees taken fieldEnd _⧺_
+returns-4 c = let g = c .before .before .before .before .before .before .before .args in let v = g .value .now in of-type 1 11 (g .kind) v (g .base .0) (c .before .before .before .before .match .keys4) (row-given 1 11 1 v (g .base .0) refl (c .before .before .ipv4 .ensures))
 
 same-length-5 : tie.Need-same-length-5
 same-length-5 c = search needs
 
 returns-5 : tie.Need-returns-5
 unfolding usual fieldsOf table leastIn fieldsIn readingOf fieldsTrees fieldTrees taken fieldEnd _⧺_
-returns-5 c = let g = c .before .before .before .before .before .before .before .args in let v = g .value .now in of-type 1 11 (g .kind) v (g .base .0) (c .before .before .before .before .match .keys5) (row-given 1 11 1 v (g .base .0) refl (c .before .before .ipv4 .ensures))
-
-same-length-6 : tie.Need-same-length-6
-same-length-6 c = search needs
+returns-5 c = let g = c .before .before .before .before .before .before .before .args in let v = g .value .now in of-type 1 12 (g .kind) v (g .base .0) (c .before .before .before .before .match .keys5) (row-given 1 12 1 v (g .base .0) refl (c .before .before .ipv6 .ensures))
 
 returns-6 : tie.Need-returns-6
-unfolding usual fieldsOf table leastIn fieldsIn readingOf fieldsTrees fieldTrees taken fieldEnd _⧺_
-returns-6 c = let g = c .before .before .before .before .before .before .before .args in let v = g .value .now in of-type 1 12 (g .kind) v (g .base .0) (c .before .before .before .before .match .keys6) (row-given 1 12 1 v (g .base .0) refl (c .before .before .ipv6 .ensures))
-
-returns-7 : tie.Need-returns-7
 unfolding table
-returns-7 c = let g = c .before .before .before .args in let v = g .value .now in let r = c .match .rest in of-unknown 1 (g .kind) v (g .base .0) (r .0 .0 .0 .0 .0 .1, (r .0 .0 .0 .0 .1, (r .0 .0 .0 .1, (r .0 .0 .1, (c .before .before .before .pre .0, (r .0 .1, (r .1, tt)))))))
+returns-6 c = let g = c .before .before .before .args in let v = g .value .now in let r = c .match .rest in of-unknown 1 (g .kind) v (g .base .0) (r .0 .0 .0 .0 .1, (r .0 .0 .0 .1, (c .before .before .before .pre .0, (r .0 .0 .1, (c .before .before .before .pre .1, (r .0 .1, (r .1, tt)))))))
 
 pub prefix-spec : {M : Type 1} → statement M
 prefix-spec =
@@ -87,7 +77,6 @@ prefix-spec =
     cast-t7
     tags-requires
     tags-requires-2
-    octet-and-sid-requires
     prefix-attributes-requires
     ipv4-requires
     ipv6-requires
@@ -101,6 +90,4 @@ prefix-spec =
     returns-4
     same-length-5
     returns-5
-    same-length-6
-    returns-6
-    returns-7)
+    returns-6)

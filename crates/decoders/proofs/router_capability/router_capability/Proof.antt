@@ -1,5 +1,6 @@
 -- Type by type, and all others.
 use mathlib.Core.Path.{refl, ap}
+use mathlib.Core.Logic.{inl, inr}
 use Rattle.tape.specs.Forest.{_⧺_}
 use Rattle.meaning.specs.Label
 use Rattle.meaning.specs.Shape.{u8}
@@ -9,7 +10,7 @@ use Rattle.meaning.specs.TableLaws.{leastIn, fieldsIn}
 use Rattle.meaning.specs.Value.{fieldEnd, fieldTrees, fieldsTrees, taken}
 use Rattle.decoders.specs.Reading.{Reading, given, readingOf}
 use Rattle.decoders.specs.ReadingLaws.{reads-as, of-type, of-unknown, row-given}
-use Rattle.decoders.specs.RowsLaws.{numbers-row}
+use Rattle.decoders.specs.RowsLaws.{numbers-row, ranges-types}
 use borrow.Author.Needs.{needs}
 use Rattle.decoders.proofs.router_capability.router_capability.Statement.{statement}
 use Rattle.decoders.proofs.router_capability.router_capability.Tie as tie
@@ -29,9 +30,6 @@ ipv6-requires c κs = search needs
 algorithms-requires : tie.Need-algorithms-requires
 algorithms-requires c κs = search needs
 
-flags-and-ranges-requires-2 : tie.Need-flags-and-ranges-requires-2
-flags-and-ranges-requires-2 c κs = search needs
-
 node-msd-requires : tie.Need-node-msd-requires
 node-msd-requires c κs = search needs
 
@@ -42,7 +40,7 @@ same-length : tie.Need-same-length
 same-length c = search needs
 
 returns : tie.Need-returns
-returns c = let g = c .before .before .before .before .before .before .before .args in let v = g .value .now in of-type 2 2 (g .kind) v (g .base .0) (c .before .before .before .before .match .keys1) (c .before .before .flags-and-ranges .ensures)
+returns c = let g = c .before .before .before .before .before .before .before .args in let v = g .value .now in reads-as (ap (readingOf 2 v (g .base .0)) (ranges-types (g .kind) v (c .before .before .before .before .match .keys1))) (c .before .before .flags-and-ranges .ensures)
 
 same-length-2 : tie.Need-same-length-2
 same-length-2 c = search needs
@@ -69,24 +67,17 @@ same-length-5 : tie.Need-same-length-5
 same-length-5 c = search needs
 
 returns-5 : tie.Need-returns-5
-unfolding usual fieldsOf table leastIn fieldsIn
-returns-5 c = let g = c .before .before .before .before .before .before .before .args in let v = g .value .now in of-type 2 22 (g .kind) v (g .base .0) (c .before .before .before .before .match .keys5) (c .before .before .flags-and-ranges2 .ensures)
+returns-5 c = let g = c .before .before .before .before .before .before .before .args in let v = g .value .now in of-type 2 23 (g .kind) v (g .base .0) (c .before .before .before .before .match .keys5) (c .before .before .node-msd .ensures)
 
 same-length-6 : tie.Need-same-length-6
 same-length-6 c = search needs
 
 returns-6 : tie.Need-returns-6
-returns-6 c = let g = c .before .before .before .before .before .before .before .args in let v = g .value .now in of-type 2 23 (g .kind) v (g .base .0) (c .before .before .before .before .match .keys6) (c .before .before .node-msd .ensures)
-
-same-length-7 : tie.Need-same-length-7
-same-length-7 c = search needs
+returns-6 c = let g = c .before .before .before .before .before .before .before .args in let v = g .value .now in of-type 2 24 (g .kind) v (g .base .0) (c .before .before .before .before .match .keys6) (c .before .before .preference .ensures)
 
 returns-7 : tie.Need-returns-7
-returns-7 c = let g = c .before .before .before .before .before .before .before .args in let v = g .value .now in of-type 2 24 (g .kind) v (g .base .0) (c .before .before .before .before .match .keys7) (c .before .before .preference .ensures)
-
-returns-8 : tie.Need-returns-8
 unfolding table
-returns-8 c = let g = c .before .before .before .args in let v = g .value .now in let r = c .match .rest in of-unknown 2 (g .kind) v (g .base .0) (r .0 .0 .0 .0 .0 .0 .1, (r .0 .0 .1, (r .0 .0 .0 .0 .0 .1, (r .0 .0 .0 .0 .1, (r .0 .0 .0 .1, (r .0 .1, (r .1, (c .before .before .before .pre .0, tt))))))))
+returns-7 c = let g = c .before .before .before .args in let v = g .value .now in let r = c .match .rest in of-unknown 2 (g .kind) v (g .base .0) ((λ e. r .0 .0 .0 .0 .0 .1 (inl e)), ((λ e. r .0 .0 .0 .0 .0 .1 (inr e)), (r .0 .0 .0 .0 .1, (r .0 .0 .0 .1, (r .0 .0 .1, (r .0 .1, (r .1, (c .before .before .before .pre .0, tt))))))))
 
 pub router-capability-spec : {M : Type 1} → statement M
 router-capability-spec =
@@ -97,7 +88,6 @@ router-capability-spec =
     ipv4-requires
     ipv6-requires
     algorithms-requires
-    flags-and-ranges-requires-2
     node-msd-requires
     preference-requires
     same-length
@@ -112,6 +102,4 @@ router-capability-spec =
     returns-5
     same-length-6
     returns-6
-    same-length-7
-    returns-7
-    returns-8)
+    returns-7)

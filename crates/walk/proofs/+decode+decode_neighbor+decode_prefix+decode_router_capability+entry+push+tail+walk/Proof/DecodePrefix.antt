@@ -34,10 +34,10 @@ end-head-requires t c κs = omega arith
 
 pub tail-requires : (t : ℕ) → decode-prefix-lts.Need-tail-requires (callees t) (decode-prefix-at t) decode-prefix.Post
 unfolding usual fieldsOf table leastIn fieldsIn readingOf fieldsTrees fieldTrees taken fieldEnd _⧺_
-tail-requires t c κs = let g = c .before .before .before .before .before .before .before .before .before .args in let v = g .value .now in let b = g .base .0 in (omega arith, (omega arith, nested-room 5 1 v b refl (c .before .before .before .before .before .if1 .left) (endHead 1 v b) (tail 3) refl (rw (c .before .before .before .before .before .before .match .keys1) at (c .before .before .before .before .before .before .before .before .before .pre .1)) (c .before .before .before .end-head .ensures .place)))
+tail-requires t c κs = let g = c .before .before .before .before .before .before .before .before .before .args in let v = g .value .now in let b = g .base .0 in (omega arith, (omega arith, nested-room 5 1 v b refl (c .before .before .before .before .before .if1 .left) (endHead 1 v b) (tail 3) refl (rw (c .before .before .before .before .before .before .match .keys1) at (c .before .before .before .before .before .before .before .before .before .pre .1 .1)) (c .before .before .before .end-head .ensures .place)))
 
 pub prefix-requires : (t : ℕ) → decode-prefix-lts.Need-prefix-requires (callees t) (decode-prefix-at t) decode-prefix.Post
-prefix-requires t c κs = (c .before .match .rest .1, omega arith, omega arith)
+prefix-requires t c κs = (c .before .before .before .before .pre .1 .0, c .before .match .rest .1, omega arith, omega arith)
 
 pub same-length : (t : ℕ) → decode-prefix-lts.Need-same-length (callees t) (decode-prefix-at t) decode-prefix.Post
 same-length t c = omega arith

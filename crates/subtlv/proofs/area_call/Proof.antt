@@ -7,8 +7,8 @@ use Rattle.meaning.specs.AreaCallLaws.{call-2, call-3, call-4, accepted}
 use Rattle.subtlv.specs.Call.{shownBy}
 use Rattle.subtlv.specs.CallLaws.{call-unknown, call-known}
 use borrow.Author.Needs.{needs}
-use Rattle.subtlv.proofs.checked.Statement.{statement}
-use Rattle.subtlv.proofs.checked.Tie as tie
+use Rattle.subtlv.proofs.area_call.Statement.{statement}
+use Rattle.subtlv.proofs.area_call.Tie as tie
 
 of-requires : tie.Need-of-requires
 of-requires c κs = search needs
@@ -61,8 +61,8 @@ same-length-2 c = search needs
 returns-5 : tie.Need-returns-5
 returns-5 c = let g = c .before .before .before .before .before .before .before .before .before .before .before .before .before .before .before .before .args in let k = call-known (shownBy (g .call)) (g .registry) (g .area .now) (g .base .0) (g .tape .now) (sym (c .before .before .before .before .before .before .before .before .before .before .before .before .before .of .ensures) ∙ c .before .before .before .before .before .before .before .before .before .before .before .known .given .1) in let r = c .before .before .before .before .before .before .before .before .before .before .before .known .given .0 .0 in let s = shownBy (g .call) in gives-as (k ∙ accepted s r (g .area .now) (g .base .0) (g .tape .now) (omega arith) (omega arith) (sym (c .before .before .before .before .before .in-order .ensures) ∙ not-false _ (c .before .before .before .before .if3 .left))) (c .before .before .fitted .ensures)
 
-pub checked-spec : {M : Type 1} → statement M
-checked-spec =
+pub area-call-spec : {M : Type 1} → statement M
+area-call-spec =
     tie.close
     (tie.spec
     of-requires
