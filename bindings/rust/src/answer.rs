@@ -92,8 +92,16 @@ impl Error for Refusal {}
 impl Numbers {
     /// The numbers of a call that was done, or why it was not.
     pub(crate) fn done(self) -> Result<Self, Refusal> {
-        Err(match self.answer {
-            0 => return Ok(self),
+        match self.answer {
+            0 => Ok(self),
+            _ => Err(self.refusal()),
+        }
+    }
+
+    /// Why a call was refused.
+    #[cold]
+    fn refusal(self) -> Refusal {
+        match self.answer {
             1 => Refusal::NoRegistry,
             2 => Refusal::AreaTooLong,
             3 => Refusal::BaseTooHigh,
@@ -105,7 +113,7 @@ impl Numbers {
             7 => Refusal::CutsContainer,
             8 => Refusal::NoRecord,
             9 => Refusal::NameTooLong,
-            other => unreachable!("no call answers {other}"),
-        })
+            other => unreachable!("no call refuses with {other}"),
+        }
     }
 }
