@@ -1,12 +1,14 @@
 //! The proved library over its C boundary: all that is unsafe in this crate. The declarations are
 //! those of include/wakkemosut.h.
 
+use core::mem::MaybeUninit;
+
 /// The words of a record.
 pub(crate) type Words = [u64; 6];
 
 /// The numbers that a call gives back.
 #[repr(C)]
-#[derive(Clone, Copy, Default)]
+#[derive(Clone, Copy)]
 pub(crate) struct Numbers {
     /// 0 when done, otherwise why the call was refused.
     pub(crate) answer: u64,
@@ -65,69 +67,56 @@ unsafe extern "C" {
     fn wakkemosut_mask(prefix: *mut u8, prefix_length: usize, bits: usize);
 }
 
+/// The numbers that a call writes to the place that it is given.
+fn numbers(call: impl FnOnce(*mut Numbers)) -> Numbers {
+    let mut numbers = MaybeUninit::uninit();
+    call(numbers.as_mut_ptr());
+    // SAFETY: each of the library's calls writes all four numbers, whatever it answers.
+    unsafe { numbers.assume_init() }
+}
+
 /// Walks an area onto a tape.
 pub(crate) fn walk(tape: &mut [u64], registry: u64, base: u64, area: &[u8]) -> Numbers {
-    let mut numbers = Numbers::default();
-    // SAFETY: the area is good for reads, the tape and the numbers are good for reads and writes
-    // for the whole call, the lengths are theirs, and no two of them overlap.
-    unsafe {
-        wakkemosut_walk(
-            area.as_ptr(),
-            area.len(),
-            base,
-            registry,
-            tape.as_mut_ptr(),
-            tape.len(),
-            &mut numbers,
-        )
-    };
-    numbers
+    let (octets, length) = (area.as_ptr(), area.len());
+    // SAFETY: the area is good for reads, the tape for reads and writes, the numbers for writes for
+    // the whole call, the lengths are theirs, and no two of them overlap.
+    numbers(|to| unsafe {
+        let (lent, words) = (tape.as_mut_ptr(), tape.len());
+        wakkemosut_walk(octets, length, base, registry, lent, words, to)
+    })
 }
 
 /// Pushes an area onto a tape.
 pub(crate) fn push(tape: &mut [u64], registry: u64, base: u64, area: &[u8]) -> Numbers {
-    let mut numbers = Numbers::default();
-    // SAFETY: the area is good for reads, the tape and the numbers are good for reads and writes
-    // for the whole call, the lengths are theirs, and no two of them overlap.
-    unsafe {
-        wakkemosut_push(
-            area.as_ptr(),
-            area.len(),
-            base,
-            registry,
-            tape.as_mut_ptr(),
-            tape.len(),
-            &mut numbers,
-        )
-    };
-    numbers
+    let (octets, length) = (area.as_ptr(), area.len());
+    // SAFETY: as of the walk.
+    numbers(|to| unsafe {
+        let (lent, words) = (tape.as_mut_ptr(), tape.len());
+        wakkemosut_push(octets, length, base, registry, lent, words, to)
+    })
 }
 
 /// Writes the header of a tape without records.
 pub(crate) fn clear(tape: &mut [u64]) -> Numbers {
-    let mut numbers = Numbers::default();
-    // SAFETY: the tape and the numbers are good for reads and writes for the whole call, the length
-    // is the tape's, and the two do not overlap.
-    unsafe { wakkemosut_clear(tape.as_mut_ptr(), tape.len(), &mut numbers) };
-    numbers
+    // SAFETY: the tape is good for reads and writes, the numbers for writes for the whole call, the
+    // length is the tape's, and the two do not overlap.
+    numbers(|to| unsafe { wakkemosut_clear(tape.as_mut_ptr(), tape.len(), to) })
 }
 
 /// Lowers the count of records to a mark.
 pub(crate) fn cut_back(tape: &mut [u64], mark: u64) -> Numbers {
-    let mut numbers = Numbers::default();
-    // SAFETY: the tape and the numbers are good for reads and writes for the whole call, the length
-    // is the tape's, and the two do not overlap.
-    unsafe { wakkemosut_cut_back(tape.as_mut_ptr(), tape.len(), mark, &mut numbers) };
-    numbers
+    // SAFETY: as of clear.
+    numbers(|to| unsafe { wakkemosut_cut_back(tape.as_mut_ptr(), tape.len(), mark, to) })
 }
 
 /// Reads the record at a position.
 pub(crate) fn read(tape: &[u64], at: u64) -> (Words, Numbers) {
     let mut record = Words::default();
-    let mut numbers = Numbers::default();
-    // SAFETY: the tape is good for reads, the record and the numbers are good for reads and writes
-    // for the whole call, the length is the tape's, and no two of them overlap.
-    unsafe { wakkemosut_read(tape.as_ptr(), tape.len(), at, &mut record, &mut numbers) };
+    // SAFETY: the tape is good for reads, the record and the numbers for writes for the whole call,
+    // the length is the tape's, and no two of them overlap.
+    let numbers = numbers(|to| unsafe {
+        wakkemosut_read(tape.as_ptr(), tape.len(), at, &mut record, to);
+    });
     (record, numbers)
 }
 
@@ -139,11 +128,9 @@ pub(crate) fn nest_test(tape: &[u64]) -> bool {
 
 /// Writes the name of a type to the front of the lent octets.
 pub(crate) fn name(registry: u64, t: u64, out: &mut [u8]) -> Numbers {
-    let mut numbers = Numbers::default();
-    // SAFETY: the octets and the numbers are good for reads and writes for the whole call, the
-    // length is that of the octets, and the two do not overlap.
-    unsafe { wakkemosut_name(registry, t, out.as_mut_ptr(), out.len(), &mut numbers) };
-    numbers
+    // SAFETY: the octets are good for reads and writes, the numbers for writes for the whole call,
+    // the length is that of the octets, and the two do not overlap.
+    numbers(|to| unsafe { wakkemosut_name(registry, t, out.as_mut_ptr(), out.len(), to) })
 }
 
 /// Clears the bits of a prefix after the first `bits`.

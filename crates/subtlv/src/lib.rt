@@ -76,14 +76,14 @@ fn append(call: Call, area: &[u8], base: Octet, registry: Registry, tape: &mut [
 }
 
 // The records, where there is room for them; 5 where there is not. Where there is room for the most that an area of so many
-// octets can need, nothing is counted before.
+// octets can need, 1 + 7n/3, nothing is counted before.
 fn fitted(call: Call, area: &[u8], base: Octet, registry: Registry, tape: &mut [u64]) -> Outcome
     requires { ⌜ (length (now area) ≤ 65535) × (base .0 + length (now area) ≤ 4294967295) × (headed (now tape) ≡ true) ⌝ }
     ensures { λ r. ⌜ Gives (fitted (covered (now (area .entry))) (shownBy call (numberOf registry) (now (area .entry)) (base .0)) (now (tape .entry))) r (now (tape .exit)) ⌝ }
 {
     let at = used(tape);
     let free = (tape.len() - 4) / 6 - at.0;
-    if free < 1 + 7 * area.len() / 3 {
+    if 3 * free <= 7 * area.len() {
         let needed = count(call, area, base, registry);
         if free < needed {
             return Outcome::no_room(needed);

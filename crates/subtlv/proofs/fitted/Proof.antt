@@ -29,8 +29,8 @@ sub-free-2 c = let x = headed-in-order (c .before .before .before .before .befor
 mul-if1 : tie.Need-mul-if1
 mul-if1 c = search needs
 
-add-if1 : tie.Need-add-if1
-add-if1 c = search needs
+mul-if1-2 : tie.Need-mul-if1-2
+mul-if1-2 c = search needs
 
 count-requires : tie.Need-count-requires
 count-requires c κs = search needs
@@ -61,7 +61,7 @@ fitted-spec =
     sub-free
     sub-free-2
     mul-if1
-    add-if1
+    mul-if1-2
     count-requires
     no-room-requires
     same-length

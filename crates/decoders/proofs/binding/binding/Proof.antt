@@ -1,11 +1,6 @@
 -- Type by type, and all others.
-use mathlib.Core.Path.{refl}
-use Rattle.tape.specs.Forest.{_⧺_}
-use Rattle.meaning.specs.Table.{table, fieldsOf, usual}
-use Rattle.meaning.specs.TableLaws.{leastIn, fieldsIn}
-use Rattle.meaning.specs.Value.{fieldEnd, fieldTrees, fieldsTrees, taken}
-use Rattle.decoders.specs.Reading.{readingOf}
-use Rattle.decoders.specs.ReadingLaws.{of-type, of-unknown, row-given}
+use Rattle.meaning.specs.Table.{table}
+use Rattle.decoders.specs.ReadingLaws.{of-type, of-unknown}
 use borrow.Author.Needs.{needs}
 use Rattle.decoders.proofs.binding.binding.Statement.{statement}
 use Rattle.decoders.proofs.binding.binding.Tie as tie
