@@ -4,62 +4,80 @@
 #![forbid(unsafe_code)]
 
 mod areas;
+mod loads;
 mod pushers;
 mod table;
 mod timing;
 
-use areas::{Area, areas};
+use std::env;
+use std::ffi::OsString;
+use std::num::NonZeroU8;
+use std::process::ExitCode;
+
+use areas::areas;
+use loads::{loads, packets};
 use pushers::{Ours, Rust, assert_alike};
 use table::Row;
 use timing::Times;
 
-/// The most octets of an area inside one TLV.
-const TLV: usize = 255;
+/// The most areas of a packet, where no number is named.
+const PACKET: usize = 16;
 
-fn main() {
-    let areas = areas();
-    areas.iter().for_each(assert_alike);
-    println!("{} areas give the same records in both", areas.len());
-    let mut ours = Ours::with_room_for(&areas);
-    let mut rust = Rust::with_room_for(&areas);
-    println!("{}", table::HEAD);
-    for load in loads(&areas) {
-        let times = Times::of(&load.areas, &mut ours, &mut rust);
-        println!("{}", Row::of(&load, times, &mut ours));
+/// What the program says when it is called with other words.
+const USAGE: &str = "usage: bench [AREAS]   the most areas of a packet, 1 to 255; 16 if not named";
+
+fn main() -> ExitCode {
+    let words: Vec<OsString> = env::args_os().skip(1).collect();
+    match packet_size(&words) {
+        Some(size) => {
+            bench(size);
+            ExitCode::SUCCESS
+        }
+        None => {
+            eprintln!("{USAGE}");
+            ExitCode::from(2)
+        }
     }
 }
 
-/// Areas that are pushed in turn.
-struct Load<'areas> {
-    /// What the table calls it.
-    name: &'areas str,
-    /// The areas.
-    areas: Vec<&'areas Area>,
+/// The most areas of a packet that the words name, if they are right.
+fn packet_size(words: &[OsString]) -> Option<usize> {
+    match words {
+        [] => Some(PACKET),
+        [word] => {
+            let size: NonZeroU8 = word.to_str()?.parse().ok()?;
+            Some(size.get().into())
+        }
+        _ => None,
+    }
 }
 
-/// Each area alone, then those that fit a TLV and all, in turn.
-fn loads(areas: &[Area]) -> Vec<Load<'_>> {
-    let alone = areas.iter().map(|area| Load {
-        name: &area.name,
-        areas: vec![area],
-    });
-    let short = areas.iter().filter(|area| area.octets.len() <= TLV);
-    let in_turn = [
-        Load {
-            name: "all that fit a TLV, in turn",
-            areas: short.collect(),
-        },
-        Load {
-            name: "all, in turn",
-            areas: areas.iter().collect(),
-        },
-    ];
-    alone.chain(in_turn).collect()
+/// Times both over all loads, whose packets have at most `size` areas, and prints the table.
+fn bench(size: usize) {
+    let areas = areas();
+    areas.iter().for_each(assert_alike);
+    println!("{} areas give the same records in both", areas.len());
+    println!("a packet has at most {size} of them");
+    let loads = loads(&areas, size);
+    let packets = packets(&loads);
+    let mut ours = Ours::with_room_for(&packets);
+    let mut rust = Rust::with_room_for(&packets);
+    println!("{}", table::HEAD);
+    for load in &loads {
+        let times = Times::of(&load.packets, &mut ours, &mut rust);
+        println!("{}", Row::of(load, times, &mut ours));
+    }
 }
 
 #[cfg(test)]
 mod tests {
     use super::*;
+
+    /// The most areas of a packet that these words name.
+    fn named(words: &[&str]) -> Option<usize> {
+        let words: Vec<OsString> = words.iter().map(OsString::from).collect();
+        packet_size(&words)
+    }
 
     #[test]
     fn every_area_gives_the_same_records_in_both() {
@@ -67,15 +85,21 @@ mod tests {
     }
 
     #[test]
-    fn there_are_areas_in_every_load() {
-        let areas = areas();
-        let loads = loads(&areas);
-        let counts: Vec<usize> = loads.iter().map(|load| load.areas.len()).collect();
-        let [alone @ .., short, all] = &counts[..] else {
-            panic!("{counts:?}");
-        };
-        assert!(alone.iter().all(|count| *count == 1));
-        assert_eq!(alone.len(), areas.len());
-        assert_eq!((*short, *all), (areas.len() - 2, areas.len()));
+    fn a_packet_has_16_areas_if_no_number_is_named() {
+        assert_eq!(named(&[]), Some(16));
+    }
+
+    #[test]
+    fn a_packet_has_as_many_areas_as_are_named() {
+        assert_eq!(named(&["1"]), Some(1));
+        assert_eq!(named(&["255"]), Some(255));
+    }
+
+    #[test]
+    fn other_words_name_no_number_of_areas() {
+        for word in ["0", "256", "-1", "1.5", "x", ""] {
+            assert_eq!(named(&[word]), None, "{word}");
+        }
+        assert_eq!(named(&["1", "2"]), None);
     }
 }

@@ -2,18 +2,22 @@
 
 use std::hint::black_box;
 
-use oracle::bench::push_again;
+use oracle::bench::push_onto;
 use oracle::packet::DissectBuffer;
 use wakkemosut::{Tape, most_records};
 
 use crate::areas::Area;
+use crate::loads::Packet;
 
 /// The place of every area's first octet.
 const BASE: u32 = 100;
 
 /// One that pushes areas.
 pub trait Pusher<'areas> {
-    /// Pushes an area in place of what was pushed before, and gives the count of its records.
+    /// Takes all records off. It comes before the first push.
+    fn empty(&mut self);
+
+    /// Pushes an area behind what is there, and gives the count of all records that are there then.
     fn push(&mut self, area: &'areas Area) -> usize;
 }
 
@@ -28,45 +32,62 @@ pub struct Rust<'areas> {
 }
 
 impl Ours {
-    /// With room to spare for each of these areas.
-    pub fn with_room_for(areas: &[Area]) -> Self {
-        let longest = areas.iter().map(|area| area.octets.len()).max();
-        let room = most_records(longest.unwrap_or(0));
+    /// With room to spare for each of these packets.
+    pub fn with_room_for(packets: &[Packet<'_>]) -> Self {
+        let room = packets.iter().map(|packet| most_records_of(packet)).max();
         Self {
-            words: vec![0; Tape::words_for(room)],
+            words: vec![0; Tape::words_for(room.unwrap_or(0))],
         }
     }
 }
 
+/// The most records that the areas of a packet can need.
+fn most_records_of(packet: &[&Area]) -> usize {
+    let needs = packet.iter().map(|area| most_records(area.octets.len()));
+    needs.sum()
+}
+
 impl<'areas> Rust<'areas> {
-    /// With room for each of these areas: it was pushed before.
-    pub fn with_room_for(areas: &'areas [Area]) -> Self {
+    /// With room for each of these packets: it was pushed before.
+    pub fn with_room_for(packets: &[Packet<'areas>]) -> Self {
         let mut rust = Self {
             buffer: DissectBuffer::new(),
         };
-        for area in areas {
-            rust.push(area);
+        for packet in packets {
+            rust.empty();
+            for area in packet {
+                rust.push(area);
+            }
         }
         rust
     }
 }
 
 impl Pusher<'_> for Ours {
-    fn push(&mut self, area: &Area) -> usize {
+    fn empty(&mut self) {
         let mut tape = Tape::over(&mut self.words);
         tape.clear().expect("there is room for a header");
+    }
+
+    fn push(&mut self, area: &Area) -> usize {
+        let mut tape = Tape::over(&mut self.words);
         let octets = black_box(&area.octets[..]);
         let laid = tape.push(area.registry, BASE.into(), octets);
+        laid.expect("the area is not refused");
         black_box(tape.words());
-        laid.expect("the area is not refused").written as usize
+        tape.mark().0 as usize
     }
 }
 
 impl<'areas> Pusher<'areas> for Rust<'areas> {
+    fn empty(&mut self) {
+        self.buffer.clear();
+    }
+
     fn push(&mut self, area: &'areas Area) -> usize {
         let octets = black_box(&area.octets[..]);
         let registry = area.registry.number() as u8;
-        push_again(&mut self.buffer, registry, BASE, octets);
+        push_onto(&mut self.buffer, registry, BASE, octets);
         black_box(self.buffer.fields()).len()
     }
 }
@@ -108,16 +129,52 @@ fn words(record: &oracle::Record) -> [u64; 6] {
 mod tests {
     use super::*;
     use crate::areas::areas;
+    use crate::loads::{loads, packets};
+
+    /// The counts of records after each push of a packet.
+    fn counts<'areas>(pusher: &mut impl Pusher<'areas>, packet: &[&'areas Area]) -> Vec<usize> {
+        pusher.empty();
+        packet.iter().map(|area| pusher.push(area)).collect()
+    }
 
     #[test]
-    fn both_push_the_same_count_of_records_again_and_again() {
+    fn both_have_the_same_counts_of_records_again_and_again() {
         let areas = areas();
-        let mut ours = Ours::with_room_for(&areas);
-        let mut rust = Rust::with_room_for(&areas);
-        for area in areas.iter().chain(areas.iter().rev()) {
-            let count = rust.push(area);
-            assert!(count > 0, "{}", area.name);
-            assert_eq!(ours.push(area), count, "{}", area.name);
+        let packets = packets(&loads(&areas, 16));
+        let mut ours = Ours::with_room_for(&packets);
+        let mut rust = Rust::with_room_for(&packets);
+        for packet in packets.iter().chain(packets.iter().rev()) {
+            let of_rust = counts(&mut rust, packet);
+            assert!(of_rust[0] > 0, "{}", packet[0].name);
+            assert_eq!(counts(&mut ours, packet), of_rust, "{}", packet[0].name);
         }
+    }
+
+    #[test]
+    fn a_push_goes_behind_what_is_there_in_both() {
+        let areas = areas();
+        let packets = [vec![&areas[0]; 3]];
+        let mut ours = Ours::with_room_for(&packets);
+        let mut rust = Rust::with_room_for(&packets);
+        assert_eq!(counts(&mut ours, &packets[0]), [5, 10, 15]);
+        assert_eq!(counts(&mut rust, &packets[0]), [5, 10, 15]);
+    }
+
+    #[test]
+    fn ours_has_room_for_the_most_that_the_largest_packet_can_need() {
+        let areas = areas();
+        let (small, large) = (&areas[0], &areas[1]);
+        let packets = [vec![large], vec![small, large, large], vec![small; 3]];
+        let room = most_records(small.octets.len()) + 2 * most_records(large.octets.len());
+        let ours = Ours::with_room_for(&packets);
+        assert_eq!(ours.words.len(), Tape::words_for(room));
+    }
+
+    #[test]
+    fn whole_packets_were_pushed_into_the_buffer_of_the_rust() {
+        let areas = areas();
+        let packets = [vec![&areas[1]; 2], vec![&areas[0]; 16]];
+        let rust = Rust::with_room_for(&packets);
+        assert_eq!(rust.buffer.fields().len(), 16 * 5);
     }
 }

@@ -3,7 +3,7 @@
 use std::hint::black_box;
 use std::time::{Duration, Instant};
 
-use crate::areas::Area;
+use crate::loads::Packet;
 use crate::pushers::Pusher;
 
 /// How often each is timed. An odd number has a median.
@@ -25,23 +25,24 @@ pub struct Times {
 }
 
 impl Times {
-    /// Times both over these areas, taking turns.
+    /// Times both over these packets, taking turns.
     pub fn of<'areas>(
-        areas: &[&'areas Area],
+        packets: &[Packet<'areas>],
         ours: &mut impl Pusher<'areas>,
         rust: &mut impl Pusher<'areas>,
     ) -> Self {
-        let passes_of_ours = passes(areas, ours);
-        let passes_of_rust = passes(areas, rust);
+        let passes_of_ours = passes(packets, ours);
+        let passes_of_rust = passes(packets, rust);
         let mut of_ours = Vec::new();
         let mut of_rust = Vec::new();
         for _ in 0..ROUNDS {
-            of_ours.push(time(areas, passes_of_ours, ours));
-            of_rust.push(time(areas, passes_of_rust, rust));
+            of_ours.push(time(packets, passes_of_ours, ours));
+            of_rust.push(time(packets, passes_of_rust, rust));
         }
+        let pushes = pushes(packets);
         Self {
-            rust: a_push(median(of_rust), passes_of_rust * areas.len()),
-            ours: a_push(median(of_ours), passes_of_ours * areas.len()),
+            rust: a_push(median(of_rust), passes_of_rust * pushes),
+            ours: a_push(median(of_ours), passes_of_ours * pushes),
         }
     }
 
@@ -51,26 +52,36 @@ impl Times {
     }
 }
 
-/// How many passes over these areas take a span, each of several times: one that is held up does
+/// How many pushes a pass over these packets has.
+fn pushes(packets: &[Packet<'_>]) -> usize {
+    packets.iter().map(Vec::len).sum()
+}
+
+/// How many passes over these packets take a span, each of several times: one that is held up does
 /// not count.
-fn passes<'areas>(areas: &[&'areas Area], pusher: &mut impl Pusher<'areas>) -> usize {
+fn passes<'areas>(packets: &[Packet<'areas>], pusher: &mut impl Pusher<'areas>) -> usize {
     let mut passes = 1;
-    while (0..TRIES).any(|_| time(areas, passes, pusher) < SPAN) {
+    while (0..TRIES).any(|_| time(packets, passes, pusher) < SPAN) {
         passes *= 2;
     }
     passes
 }
 
-/// How long so many passes over these areas take.
+/// How long so many passes over these packets take. It is never inlined, so that each of the two
+/// pushers has a loop of its own, which is not spread over `main`.
+#[inline(never)]
 fn time<'areas>(
-    areas: &[&'areas Area],
+    packets: &[Packet<'areas>],
     passes: usize,
     pusher: &mut impl Pusher<'areas>,
 ) -> Duration {
     let start = Instant::now();
     for _ in 0..passes {
-        for area in areas {
-            black_box(pusher.push(area));
+        for packet in packets {
+            pusher.empty();
+            for area in packet {
+                black_box(pusher.push(area));
+            }
         }
     }
     start.elapsed()
@@ -90,6 +101,7 @@ fn median(mut times: Vec<Duration>) -> Duration {
 #[cfg(test)]
 mod tests {
     use super::*;
+    use crate::areas::{Area, areas};
 
     #[test]
     fn the_median_is_in_the_middle() {
@@ -97,32 +109,46 @@ mod tests {
         assert_eq!(median(times.to_vec()), Duration::from_millis(5));
     }
 
-    /// A pusher that counts its pushes, and is held up in the first.
-    struct Counting(usize);
+    /// A pusher that counts the pushes after each emptying, and is held up in the first.
+    #[derive(Default)]
+    struct Counting(Vec<usize>);
 
     impl Pusher<'_> for Counting {
+        fn empty(&mut self) {
+            self.0.push(0);
+        }
+
         fn push(&mut self, _area: &Area) -> usize {
-            if self.0 == 0 {
+            if self.0 == [0] {
                 std::thread::sleep(SPAN);
             }
-            self.0 += 1;
-            self.0
+            let pushes = self.0.last_mut().expect("it was emptied first");
+            *pushes += 1;
+            *pushes
         }
     }
 
     #[test]
     fn one_pass_that_is_held_up_does_not_count() {
-        let areas = crate::areas::areas();
-        let mut counting = Counting(0);
-        assert!(passes(&[&areas[0]], &mut counting) > 1);
+        let areas = areas();
+        let packets = [vec![&areas[0]]];
+        assert!(passes(&packets, &mut Counting::default()) > 1);
     }
 
     #[test]
-    fn a_pass_pushes_each_area_once() {
-        let areas = crate::areas::areas();
-        let mut counting = Counting(1);
-        time(&[&areas[0], &areas[1]], 5, &mut counting);
-        assert_eq!(counting.0, 11);
+    fn a_pass_empties_before_each_packet_and_pushes_its_areas() {
+        let areas = areas();
+        let packets = [vec![&areas[0]; 3], vec![&areas[1]]];
+        let mut counting = Counting::default();
+        time(&packets, 2, &mut counting);
+        assert_eq!(counting.0, [3, 1, 3, 1]);
+    }
+
+    #[test]
+    fn a_pass_has_the_pushes_of_all_packets() {
+        let areas = areas();
+        let packets = [vec![&areas[0]; 3], vec![&areas[1]]];
+        assert_eq!(pushes(&packets), 4);
     }
 
     #[test]

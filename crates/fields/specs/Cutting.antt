@@ -1,10 +1,11 @@
 -- One law for every loop that lays pieces one after the other, and then the array in front of them.
-use mathlib.Core.Path.{_≡_, refl, _∙_}
+use mathlib.Core.Path.{_≡_, refl, sym, _∙_}
 use mathlib.Core.List.{List}
 use Prim.Native.Nat.{ℕ, _+_, _≤_, _<_}
 use native.Mathlib.Nat.{add-zero}
 use native.Mathlib.Omega.{arith}
 use lib.ListN.{length, take, drop, length-drop}
+use lib.Seq.{drop-drop}
 use Rattle.tape.specs.Record.{containerRecord}
 use Rattle.tape.specs.Tape.{putAt}
 use Rattle.tape.specs.Forest.{Forest}
@@ -46,3 +47,25 @@ module _ {m : Measure} (fits : (xs : List ℕ) → m xs ≤ length xs) {f : List
       let e = laying-end (c .laying) (left-end m fits f base s i stops) (more-end m fits f base s i stops) in
       let k : Laid (each f base (pieces m s)) t u (position + 1) (r .next .0) = rw add-zero at (e .0) in
       record { covers = covers ∙ e .1; laid = rw (← e .1) (laid-node (content label 7 registry base (base + i) 0) k put) }
+
+-- the same, for a loop over what is left of s: those octets, of which the first stands at place
+pub record CutOff (m : Measure) (f : List ℕ → ℕ → Forest) (base : ℕ) (s t u : List ℕ) (at : ℕ) (octets : List ℕ) (place next : ℕ) : Type 0 where
+  pub cut : ℕ
+  pub rest : octets ≡ drop cut s
+  pub there : place ≡ base + cut
+  pub cutting : Cutting m f base s t u at cut next
+
+-- before the first turn
+pub cut-off-start : (m : Measure) (f : List ℕ → ℕ → Forest) (base : ℕ) (s t : List ℕ) (at : ℕ) → CutOff m f base s t t at s base at
+cut-off-start m f base s t at = record { cut = 0; rest = refl; there = sym (add-zero base); cutting = cutting-start m f base s t at }
+
+-- one turn, over a piece of w octets
+pub cut-off-step : {m : Measure} (fits : (xs : List ℕ) → m xs ≤ length xs) {f : List ℕ → ℕ → Forest} {base : ℕ} {s t u v octets : List ℕ} {at place next next′ : ℕ} (w : ℕ)
+    → CutOff m f base s t u at octets place next → m octets ≡ w → 0 < w → Laid (f (take w octets) place) u v next next′ → CutOff m f base s t v at (drop w octets) (place + w) next′
+cut-off-step fits {s = s} w c is some laid =
+    record {
+      cut = c .cut + w;
+      rest = rw (c .rest) (drop-drop w (c .cut) s);
+      there = omega (arith, c .there);
+      cutting = cutting-step fits w (c .cutting) (rw (c .rest) at is) some (rw (c .rest, c .there) at laid);
+    }

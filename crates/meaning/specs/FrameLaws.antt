@@ -4,7 +4,7 @@ use mathlib.Core.Bool.{Bool, true, false, true≢false, _&&_, _||_, cond}
 use mathlib.Core.List.{List, [], _∷_, _++_}
 use Prim.Native.Nat.{ℕ, suc, _+_, _≤_, _<_}
 use native.Mathlib.Omega.{arith}
-use borrow.Author.Tests.{leb-true, le-leb, eqb-true}
+use borrow.Author.Tests.{leb-true, le-leb, lt-leb, eqb-true}
 use lib.Dec.{leb, eqb}
 use lib.ListN.{length, getD, length-append, length-drop, List·getD-append}
 use lib.Seq.{drop-append-add, drop-length}
@@ -35,6 +35,16 @@ whole-is n xs h = rw (passed (leb n (length xs)) n h)
 pub entry-fits : (xs : List ℕ) → entryLength xs ≤ length xs
 unfolding entryLength
 entry-fits xs = whole-fits (suc (suc (getD xs 1 0))) xs
+
+-- as the length octet says
+module _ (xs : List ℕ) where
+  pub entry-here : 2 + getD xs 1 0 ≤ length xs → entryLength xs ≡ 2 + getD xs 1 0
+  unfolding entryLength
+  entry-here enough = rw (le-leb (suc (suc (getD xs 1 0))) (length xs) (omega (arith, enough))) (omega arith)
+
+  pub entry-over : length xs < 2 + getD xs 1 0 → entryLength xs ≡ 0
+  unfolding entryLength
+  entry-over few = rw (lt-leb (suc (suc (getD xs 1 0))) (length xs) (omega (arith, few)))
 
 pub entry-more : (xs ys : List ℕ) → 0 < entryLength xs → entryLength (xs ++ ys) ≡ entryLength xs
 unfolding entryLength

@@ -2,7 +2,7 @@
 use mathlib.Core.Path.{_≡_, refl, _∙_}
 use mathlib.Core.Bool.{Bool, true, false, _||_, _&&_, cond}
 use mathlib.Core.List.{List, _∷_}
-use Prim.Native.Nat.{ℕ, suc, _+_, _-_, _≤_, _<_}
+use Prim.Native.Nat.{ℕ, _+_, _-_, _≤_, _<_}
 use native.Mathlib.Nat.{add-assoc}
 use native.Mathlib.Omega.{arith}
 use lib.Dec.{eqb}
@@ -12,7 +12,7 @@ use borrow.Author.Tests.{le-leb, lt-leb, ne-eqb}
 use Rattle.tape.specs.Forest.{Forest, none, _⧺_}
 use Rattle.meaning.specs.Cut.{Measure, pieces, total, each}
 use Rattle.meaning.specs.CutLaws.{pieces-stop, pieces-step}
-use Rattle.meaning.specs.Frame.{whole, entryLength, isRange, rangeLength}
+use Rattle.meaning.specs.Frame.{whole, isRange, rangeLength}
 
 -- pieces cut by m out of s, whose first octet stands at base, and what each becomes
 module _ (m : Measure) (f : List ℕ → ℕ → Forest) (base : ℕ) (s : List ℕ) where
@@ -64,21 +64,6 @@ module _ (n : ℕ) (s : List ℕ) (i : ℕ) where
 
   pub whole-over : length s < i + n → i ≤ length s → whole n (drop i s) ≡ 0
   whole-over few inside = rw (lt-leb n (length (drop i s)) (omega (arith, length-drop i s)))
-
--- entryLength
-
--- as the length octet says
-module _ (s : List ℕ) (i w : ℕ) (says : w ≡ 2 + getD s (i + 1) 0) where
-  said : suc (suc (getD s (i + 1) 0)) ≡ w
-  said = omega (arith, says)
-
-  pub entry-here : i + w ≤ length s → entryLength (drop i s) ≡ w
-  unfolding entryLength
-  entry-here enough = rw (getD-drop i s 1 0, said) (whole-here w s i enough)
-
-  pub entry-over : length s < i + w → i ≤ length s → entryLength (drop i s) ≡ 0
-  unfolding entryLength
-  entry-over few inside = rw (getD-drop i s 1 0, said) (whole-over w s i few inside)
 
 -- rangeLength
 

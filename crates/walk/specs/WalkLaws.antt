@@ -25,7 +25,7 @@ use Rattle.meaning.specs.Value.{pushBy}
 use Rattle.meaning.specs.Area.{entryTrees, walkTrees, walked, pushed}
 use Rattle.meaning.specs.Theorems.TheCalls.{walk-again}
 use Rattle.fields.specs.Shows.{Shows, arrayBy}
-use Rattle.fields.specs.Cutting.{Cutting, cutting-end}
+use Rattle.fields.specs.Cutting.{CutOff, cutting-end}
 use Rattle.fields.specs.declared.Shown.{Shown}
 use Rattle.walk.specs.Rest.{Room}
 
@@ -53,32 +53,35 @@ module _ (k : ℕ) (area : List ℕ) (base : ℕ) where
       go [] some = absurd (omega arith)
       go (x ∷ xs) some = refl
 
-  -- entries up to octet i are laid behind position at
-  module _ {t u : List ℕ} {at i next : ℕ} (cutting : Cutting entryLength each-entry base area t u (at + 1) i next) where
+  -- entries are laid behind position at; octets are left, of which the first stands at place
+  module _ {t u octets : List ℕ} {at place next : ℕ} (c : CutOff entryLength each-entry base area t u (at + 1) octets place next) where
     -- the room that the next entry has, of w octets
-    pub next-room : (w : ℕ) → entryLength (drop i area) ≡ w → 0 < w → Room (walked usual k area base) (length area) base at
-        → Room (each-entry (take w (drop i area)) (base + i)) (length (take w (drop i area))) (base + i) next
+    pub next-room : (w : ℕ) → entryLength octets ≡ w → 0 < w → Room (walked usual k area base) (length area) base at
+        → Room (each-entry (take w octets) place) (length (take w octets)) place next
     next-room w is some room =
-        let fits : w ≤ length (drop i area) = rw is at (entry-fits (drop i area)) in
-        let step = left-step entryLength entry-fits each-entry base area i w is some in
-        record {
+        let i = c .cut in
+        let here : entryLength (drop i area) ≡ w = rw (c .rest) at is in
+        let fits : w ≤ length (drop i area) = rw here at (entry-fits (drop i area)) in
+        let step = left-step entryLength entry-fits each-entry base area i w here some in
+        rw (c .rest, c .there) (record {
           octet = omega (arith, room .octet, length-take-le w (drop i area) fits, fits, length-drop i area);
           position = omega (
             arith,
             room .position,
-            laying-room (i + w) (each-entry (take w (drop i area)) (base + i)) (cutting .laying) step,
+            laying-room (i + w) (each-entry (take w (drop i area)) (base + i)) (c .cutting .laying) step,
             ap size (walk-some (omega (arith, fits, length-drop i area))),
             ap (λ (n : ℕ). size (each each-entry n (pieces entryLength area))) (add-zero base),
           );
-        }
+        })
 
     -- after the last entry the array is put in front
-    pub walk-made : {v : List ℕ} {r : Shown} (registry : ℕ) → registry ≡ k → 0 < length area → entryLength (drop i area) ≡ 0 → r .next .0 ≡ next → r .covered ≡ i
-        → v ≡ putAt u at (containerRecord (content 4 7 registry base (base + i) 0) (at + 1) next)
+    pub walk-made : {v : List ℕ} {r : Shown} (registry : ℕ) → registry ≡ k → 0 < length area → entryLength octets ≡ 0 → r .next .0 ≡ next → base + r .covered ≡ place
+        → v ≡ putAt u at (containerRecord (content 4 7 registry base (base + r .covered) 0) (at + 1) next)
         → Shows (covered area) (walked usual k area base) t v at r
     unfolding covered entries
-    walk-made registry same some stops after covers put =
-        rw (walk-some some) (cutting-end entry-fits 4 k (rw (sym after) at cutting) stops (rw (same, sym after) at put) covers)
+    walk-made {r = r} registry same some stops after ends put =
+        let covers : r .covered ≡ c .cut = omega (arith, ends, c .there) in
+        rw (walk-some some) (cutting-end entry-fits 4 k (rw (sym after) at (c .cutting)) (rw (c .rest) at stops) (rw (same, sym after, covers) at put) covers)
 
   -- push
 

@@ -271,13 +271,14 @@ fn entry(octets: &[u8], base: Octet, registry: Registry, tape: &mut [u64], at: P
     ensures { λ r. ⌜ Laid (entryTrees usual (walked usual) (numberOf registry) (now (octets .entry)) (base .0)) (now (tape .entry)) (now (tape .exit)) (at .0) (r .0) ⌝ }
 {
     let n = octets.len();
+    let kind = octets[0];
     let k = registry.number() as u8;
     let source = Source { registry: k, base };
     let inside = Octet(base.0 + 2);
     let second = number8(octets, source, Label::TYPE, 0, tape, Position(at.0 + 1));
     let third = number8(octets, source, Label::LENGTH, 1, tape, second);
     let value = &octets[2..n];
-    let decoded = decode(value, octets[0], inside, registry, tape, third);
+    let decoded = decode(value, kind, inside, registry, tape, third);
     let taken = decoded.taken;
     let after = decoded.next;
     let behind = Source {
@@ -301,22 +302,33 @@ pub fn walk(area: &[u8], base: Octet, registry: Registry, tape: &mut [u64], at: 
             next: at,
         };
     }
-    let mut pos = 0;
+    let mut left = area;
+    let mut place = base;
     let mut next = Position(at.0 + 1);
-    while pos + 2 <= n {
-        let stop = pos + 2 + area[pos + 1] as usize;
-        if n < stop {
+    while 2 <= left.len() {
+        let length = 2 + left[1] as usize;
+        if left.len() < length {
             break;
         }
-        next = entry(&area[pos..stop], Octet(base.0 + pos), registry, tape, next);
-        pos = stop;
+        next = entry(&left[0..length], place, registry, tape, next);
+        left = &left[length..];
+        place = Octet(place.0 + length);
     }
+    let covered = place.0 - base.0;
     let source = Source {
         registry: registry.number() as u8,
         base,
     };
-    container(source, Label::SUB_TLVS, Shape::ARRAY, pos, tape, at, next);
-    Shown { covered: pos, next }
+    container(
+        source,
+        Label::SUB_TLVS,
+        Shape::ARRAY,
+        covered,
+        tape,
+        at,
+        next,
+    );
+    Shown { covered, next }
 }
 
 // Lays the walk of an area, and one `raw` record beside it for the octets that it does not cover, if there are any.

@@ -19,11 +19,14 @@ use Rattle.walk.proofs.rest.Reads as rest-reads
 abbrev pub callees : ℕ → entry-lts.Claims
 callees t = (number-reads.Asked, number-reads.Learnt, number8-reads.Asked, number8-reads.Learnt, decode-below t, decode.Post, rest-reads.Asked, rest-reads.Learnt, container-reads.Asked, container-reads.Learnt)
 
+pub shared-slice-read-kind : (t : ℕ) → entry-lts.Need-shared-slice-read-kind (callees t) (entry-at t) entry.Post
+shared-slice-read-kind t c = omega arith
+
 pub number-requires : (t : ℕ) → entry-lts.Need-number-requires (callees t) (entry-at t) entry.Post
 number-requires t c κs = search needs
 
 pub cast-k : (t : ℕ) → entry-lts.Need-cast-k (callees t) (entry-at t) entry.Post
-cast-k t c = omega (arith, c .number .ensures, number-low (c .before .before .before .args .registry))
+cast-k t c = omega (arith, c .number .ensures, number-low (c .before .before .before .before .args .registry))
 
 pub add-value : (t : ℕ) → entry-lts.Need-add-value (callees t) (entry-at t) entry.Post
 add-value t c = omega arith
@@ -46,14 +49,11 @@ part-value-start t c = omega arith
 pub part-value-end : (t : ℕ) → entry-lts.Need-part-value-end (callees t) (entry-at t) entry.Post
 part-value-end t c = omega arith
 
-pub shared-slice-read-decode : (t : ℕ) → entry-lts.Need-shared-slice-read-decode (callees t) (entry-at t) entry.Post
-shared-slice-read-decode t c = omega arith
-
 pub decode-requires : (t : ℕ) → entry-lts.Need-decode-requires (callees t) (entry-at t) entry.Post
-decode-requires t c κs = let g = c .before .before .before .before .before .before .before .before .before .before .before .before .before .before .before .before .args in let e = g .octets .now in let r = entry-room (numberOf (g .registry)) e (g .base .0) {third = c .before .before .before .before .before .number82 .result .0} (c .before .before .before .before .before .before .before .before .before .before .before .before .before .before .before .before .pre .1 .0) (c .before .before .before .before .before .before .before .before .before .before .before .before .before .before .before .before .pre .1 .1) (omega (arith, c .before .before .before .before .before .number82 .ensures .place, c .before .before .before .before .before .before .before .before .before .number8 .ensures .place)) in rw (part-rest 2 e) (omega (arith, length-drop 2 e), r)
+decode-requires t c κs = let g = c .before .before .before .before .before .before .before .before .before .before .before .before .before .before .before .before .args in let e = g .octets .now in let r = entry-room (numberOf (g .registry)) e (g .base .0) {third = c .before .before .before .before .number82 .result .0} (c .before .before .before .before .before .before .before .before .before .before .before .before .before .before .before .before .pre .1 .0) (c .before .before .before .before .before .before .before .before .before .before .before .before .before .before .before .before .pre .1 .1) (omega (arith, c .before .before .before .before .number82 .ensures .place, c .before .before .before .before .before .before .before .before .number8 .ensures .place)) in rw (part-rest 2 e) (omega (arith, length-drop 2 e), r)
 
 pub rest-requires : (t : ℕ) → entry-lts.Need-rest-requires (callees t) (entry-at t) entry.Post
-rest-requires t c κs = let g = c .before .before .before .before .before .before .before .before .before .before .before .before .before .before .before .before .before .before .before .before .before .args in let e = g .octets .now in let r = entry-room (numberOf (g .registry)) e (g .base .0) {third = c .before .before .before .before .before .before .before .before .before .before .number82 .result .0} (c .before .before .before .before .before .before .before .before .before .before .before .before .before .before .before .before .before .before .before .before .before .pre .1 .0) (c .before .before .before .before .before .before .before .before .before .before .before .before .before .before .before .before .before .before .before .before .before .pre .1 .1) (omega (arith, c .before .before .before .before .before .before .before .before .before .before .number82 .ensures .place, c .before .before .before .before .before .before .before .before .before .before .before .before .before .before .number8 .ensures .place)) in let d = rw (part-rest 2 e) at (c .before .before .before .before .decode .ensures) in rw (part-rest 2 e) (omega (arith, r .octet, r .position, d .laid .place))
+rest-requires t c κs = let g = c .before .before .before .before .before .before .before .before .before .before .before .before .before .before .before .before .before .before .before .before .before .args in let e = g .octets .now in let r = entry-room (numberOf (g .registry)) e (g .base .0) {third = c .before .before .before .before .before .before .before .before .before .number82 .result .0} (c .before .before .before .before .before .before .before .before .before .before .before .before .before .before .before .before .before .before .before .before .before .pre .1 .0) (c .before .before .before .before .before .before .before .before .before .before .before .before .before .before .before .before .before .before .before .before .before .pre .1 .1) (omega (arith, c .before .before .before .before .before .before .before .before .before .number82 .ensures .place, c .before .before .before .before .before .before .before .before .before .before .before .before .before .number8 .ensures .place)) in let d = rw (part-rest 2 e) at (c .before .before .before .before .decode .ensures) in rw (part-rest 2 e) (omega (arith, r .octet, r .position, d .laid .place))
 
 pub container-requires : (t : ℕ) → entry-lts.Need-container-requires (callees t) (entry-at t) entry.Post
 container-requires t c κs = omega (arith, c .before .before .before .before .before .before .before .before .before .before .before .before .before .before .before .before .before .before .before .before .before .before .before .before .before .pre .1 .1 .octet, c .before .before .before .before .before .before .before .before .before .before .before .before .before .before .before .before .before .before .before .before .before .before .before .before .before .pre .1 .1 .position)
@@ -62,4 +62,4 @@ pub same-length : (t : ℕ) → entry-lts.Need-same-length (callees t) (entry-at
 same-length t c = omega arith
 
 pub returns : (t : ℕ) → entry-lts.Need-returns (callees t) (entry-at t) entry.Post
-returns t c = let g = c .before .before .before .before .before .before .before .before .before .before .before .before .before .before .before .before .before .before .before .before .before .before .before .before .before .before .before .before .args in let e = g .octets .now in entry-made (numberOf (g .registry)) e (g .base .0) (c .before .before .before .before .before .before .before .before .before .before .before .before .before .before .before .before .before .before .before .before .before .before .before .before .before .number .result) (c .before .before .before .before .before .before .before .before .before .before .before .before .before .before .before .before .before .before .before .before .before .before .before .before .before .number .ensures) (c .before .before .before .before .before .before .before .before .before .before .before .before .before .before .before .before .before .before .before .before .before .number8 .ensures) (c .before .before .before .before .before .before .before .before .before .before .before .before .before .before .before .before .before .number82 .ensures) (rw (part-rest 2 e) at (c .before .before .before .before .before .before .before .before .before .before .before .decode .ensures)) (rw (part-rest 2 e) at (c .before .before .before .before .before .before .rest .ensures)) (c .before .before .container .ensures)
+returns t c = let g = c .before .before .before .before .before .before .before .before .before .before .before .before .before .before .before .before .before .before .before .before .before .before .before .before .before .before .before .before .args in let e = g .octets .now in entry-made (numberOf (g .registry)) e (g .base .0) (c .before .before .before .before .before .before .before .before .before .before .before .before .before .before .before .before .before .before .before .before .before .before .before .before .number .result) (c .before .before .before .before .before .before .before .before .before .before .before .before .before .before .before .before .before .before .before .before .before .before .before .before .number .ensures) (c .before .before .before .before .before .before .before .before .before .before .before .before .before .before .before .before .before .before .before .before .number8 .ensures) (c .before .before .before .before .before .before .before .before .before .before .before .before .before .before .before .before .number82 .ensures) (rw (part-rest 2 e) at (c .before .before .before .before .before .before .before .before .before .before .before .decode .ensures)) (rw (part-rest 2 e) at (c .before .before .before .before .before .before .rest .ensures)) (c .before .before .container .ensures)
