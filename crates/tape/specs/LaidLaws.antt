@@ -3,6 +3,7 @@ use mathlib.Core.Path.{_≡_, refl, sym, ap, _∙_}
 use mathlib.Core.List.{List, append-nil}
 use mathlib.Core.Logic.{_⊎_, inl, inr, ⊎-elim}
 use Prim.Native.Nat.{ℕ, suc, _+_, _*_, _≤_, _<_}
+use native.Mathlib.Nat.{add-assoc}
 use native.Mathlib.Numerals.{add-one}
 use native.Mathlib.Omega.{arith}
 use Rattle.tape.specs.Record.{leafRecord, containerRecord}
@@ -52,6 +53,23 @@ laid-node m {k} {t} {u} {v} {at} {next} a e =
           ∙ container-last t at (containerRecord m (at + 1) next) (flat (at + 1) k)
           ∙ rw (a .place, add-one at, append-nil (flat (suc at) k)) refl;
     }
+
+-- what stands behind a leaf, and then the leaf in front of it
+pub laid-front : (m : Content) {k : Forest} {t u v : List ℕ} {at next : ℕ} → Laid k t u (at + 1) next → v ≡ putAt u at (leafRecord m) → Laid (leaf m k) t v at next
+unfolding flat
+laid-front m {k} {t} {u} {v} {at} {next} a e =
+    record {
+      place = omega (arith, a .place);
+      words = e ∙ ap (λ (l : List ℕ). putAt l at (leafRecord m)) (a .words) ∙ container-last t at (leafRecord m) (flat (at + 1) k) ∙ rw (add-one at) refl;
+    }
+
+-- what stands behind two leaves, and then the leaves and the container of all these in front of it
+pub laid-container-of-two : (m a b : Content) {k : Forest} {t u v : List ℕ} {at next : ℕ} → Laid k t u (at + 3) next
+    → v ≡ putAt (putAt (putAt u (at + 2) (leafRecord b)) (at + 1) (leafRecord a)) at (containerRecord m (at + 1) next) → Laid (node m (leaf a (leaf b k)) none) t v at next
+laid-container-of-two m a b {k} {t} {u} {at = at} {next} laid e =
+    let behind : Laid k t u (at + 2 + 1) next = rw (add-assoc at 2 1) laid in
+    let second : Laid (leaf b k) t (putAt u (at + 2) (leafRecord b)) (at + 1 + 1) next = rw (add-assoc at 1 1) (laid-front b behind refl) in
+    laid-node m (laid-front a second refl) e
 
 -- the length of the tape is kept
 pub laid-length : {f : Forest} {t u : List ℕ} {at next : ℕ} → Laid f t u at next → length u ≡ length t

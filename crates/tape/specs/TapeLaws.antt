@@ -26,16 +26,38 @@ pub length-putAt : (t : List ℕ) (at : ℕ) (r : Record) → length (putAt t at
 unfolding putAt
 length-putAt t at r = cond-length (leb (4 + 6 * at + 6) (length t)) _ t (length-sets t (4 + 6 * at) (words r))
 
--- six words written one by one, inside the tape
-pub put-inside : (t : List ℕ) (at : ℕ) (r : Record) → 4 + 6 * at + 6 ≤ length t
-    → set (set (set (set (set (set t (4 + 6 * at) (r .tag)) (4 + 6 * at + 1) (r .start .0)) (4 + 6 * at + 2) (r .end .0)) (4 + 6 * at + 3) (r .number)) (4 + 6 * at + 4) (r .first .0)) (4 + 6 * at + 5) (r .past .0) ≡ putAt t at r
+-- six words written one by one
+pub six-set : (t : List ℕ) (b : ℕ) (r : Record)
+    → set (set (set (set (set (set t b (r .tag)) (b + 1) (r .start .0)) (b + 2) (r .end .0)) (b + 3) (r .number)) (b + 4) (r .first .0)) (b + 5) (r .past .0) ≡ sets t b (words r)
+six-set t b r = simp towards-suc
+
+-- six words written, inside the tape
+pub put-inside : (t : List ℕ) (at b : ℕ) (r : Record) → b ≡ 4 + 6 * at → b + 6 ≤ length t → sets t b (words r) ≡ putAt t at r
 unfolding putAt
-put-inside t at r inside = rw (le-leb _ _ inside) (simp towards-suc)
+put-inside t at b r is inside = rw is (rw (le-leb (4 + 6 * at + 6) (length t) (omega (arith, is))) refl)
 
 -- nothing written, outside the tape
 pub put-outside : (t : List ℕ) (at : ℕ) (r : Record) → length t < 4 + 6 * at + 6 → t ≡ putAt t at r
 unfolding putAt
 put-outside t at r outside = simp (lt-leb _ _ outside)
+
+-- three records, of which the last is written first
+module _ (t : List ℕ) (at : ℕ) (first second third : Record) where
+  -- inside the tape
+  pub three-inside : {u v w : List ℕ} → 4 + 6 * at + 18 ≤ length t → u ≡ sets t (4 + 6 * at + 12) (words third) → v ≡ sets u (4 + 6 * at + 6) (words second)
+      → w ≡ sets v (4 + 6 * at) (words first) → w ≡ putAt (putAt (putAt t (at + 2) third) (at + 1) second) at first
+  three-inside {u} {v} inside a b c =
+      let lu : length u ≡ length t = ap length a ∙ length-sets t (4 + 6 * at + 12) (words third) in
+      let lv : length v ≡ length t = ap length b ∙ length-sets u (4 + 6 * at + 6) (words second) ∙ lu in
+      c
+      ∙ put-inside v at (4 + 6 * at) first refl (omega (arith, lv))
+      ∙ ap (λ (l : List ℕ). putAt l at first) (b
+      ∙ put-inside u (at + 1) (4 + 6 * at + 6) second (omega arith) (omega (arith, lu))
+      ∙ ap (λ (l : List ℕ). putAt l (at + 1) second) (a ∙ put-inside t (at + 2) (4 + 6 * at + 12) third (omega arith) (omega arith)))
+
+  -- the last one outside of it
+  pub three-outside : {u v : List ℕ} → length t < 4 + 6 * at + 18 → u ≡ putAt t (at + 1) second → v ≡ putAt u at first → v ≡ putAt (putAt (putAt t (at + 2) third) (at + 1) second) at first
+  three-outside outside a b = b ∙ ap (λ (l : List ℕ). putAt l at first) (a ∙ ap (λ (l : List ℕ). putAt l (at + 1) second) (put-outside t (at + 2) third (omega arith)))
 
 -- puts at two positions commute
 

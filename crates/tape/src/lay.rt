@@ -2,9 +2,10 @@
 use crate::Content;
 use crate::Position;
 use crate::words::put;
+use crate::words::put_three;
 ghost use mathlib.Core.Path.{_≡_};
 ghost use Prim.Native.Nat.{_+_, _<_, _^_};
-ghost use Rattle.tape.specs.Record.{containerRecord};
+ghost use Rattle.tape.specs.Record.{leafRecord, containerRecord};
 ghost use Rattle.tape.specs.Tape.{putAt};
 ghost use Rattle.tape.specs.Forest.{leaf, none};
 ghost use Rattle.tape.specs.Laid.{Laid};
@@ -26,4 +27,21 @@ pub fn container(tape: &mut [u64], at: Position, content: Content, next: Positio
 {
     let p = at.0;
     put(tape, at, content.container(Position(p + 1), next));
+}
+
+// Lays a container at position `at`, and two leaves as its first children; the others stand behind these, up to position `next`.
+pub fn container_of_two(
+    tape: &mut [u64],
+    at: Position,
+    content: Content,
+    first: Content,
+    second: Content,
+    next: Position,
+)
+    requires { ⌜ at .0 < 2 ^ 60 ⌝ }
+    ensures { λ _. ⌜ now (tape .exit) ≡ putAt (putAt (putAt (now (tape .entry)) (at .0 + 2) (leafRecord second)) (at .0 + 1) (leafRecord first)) (at .0) (containerRecord content (at .0 + 1) (next .0)) ⌝ }
+{
+    let p = at.0;
+    let whole = content.container(Position(p + 1), next);
+    put_three(tape, at, whole, first.leaf(), second.leaf());
 }

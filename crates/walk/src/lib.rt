@@ -15,23 +15,26 @@ use decoders::srv6_sid::srv6_sid;
 use fields::Shown;
 use fields::Source;
 use fields::array::container;
-use fields::part::number8;
 use fields::part::number16;
 use fields::part::part;
 use registry::Registry;
 use registry::registries::Neighbor;
 use registry::registries::Prefix;
 use registry::registries::RouterCapability;
+use tape::Content;
 use tape::Octet;
 use tape::Position;
 use tape::label::Label;
+use tape::lay;
 use tape::shape::Shape;
 ghost use mathlib.Core.Path.{_≡_};
 ghost use Prim.Native.Nat.{_+_, _≤_, _<_, _^_};
 ghost use lib.ListN.{length, drop};
 ghost use Rattle.registry.specs.Registry.{numberOf};
+ghost use Rattle.tape.specs.Record.{leafRecord, containerRecord};
+ghost use Rattle.tape.specs.Tape.{putAt};
 ghost use Rattle.tape.specs.Laid.{Laid};
-ghost use Rattle.meaning.specs.Tree.{raw as rawTrees};
+ghost use Rattle.meaning.specs.Tree.{content, raw as rawTrees};
 ghost use Rattle.meaning.specs.Frame.{covered};
 ghost use Rattle.meaning.specs.Field.{tail as tailField};
 ghost use Rattle.meaning.specs.Table.{usual};
@@ -265,20 +268,60 @@ fn decode(
     }
 }
 
-// Lays a complete entry: its type, its length and its value, and then the `sub_tlv` object in front of them.
+// Lays the `sub_tlv` object of an entry of `n` octets, with its type and its length; its value stands behind these, up to `next`.
+fn entry_head(
+    source: Source,
+    kind: u8,
+    length: u8,
+    n: usize,
+    tape: &mut [u64],
+    at: Position,
+    next: Position,
+)
+    requires { ⌜ (source .base .0 + n + 2 < 2 ^ 33) × (at .0 < 2 ^ 60) ⌝ }
+    ensures { λ _. ⌜ now (tape .exit) ≡ putAt (putAt (putAt (now (tape .entry)) (at .0 + 2) (leafRecord (content 1 0 (source .registry) (source .base .0 + 1) (source .base .0 + 2) length))) (at .0 + 1) (leafRecord (content 0 0 (source .registry) (source .base .0) (source .base .0 + 1) kind))) (at .0) (containerRecord (content 47 8 (source .registry) (source .base .0) (source .base .0 + n) 0) (at .0 + 1) (next .0)) ⌝ }
+{
+    let registry = source.registry;
+    let start = source.base.0;
+    let whole = Content {
+        label: Label::SUB_TLV,
+        shape: Shape::OBJECT,
+        registry,
+        start: Octet(start),
+        end: Octet(start + n),
+        number: 0,
+    };
+    let first = Content {
+        label: Label::TYPE,
+        shape: Shape::U8,
+        registry,
+        start: Octet(start),
+        end: Octet(start + 1),
+        number: kind as u64,
+    };
+    let second = Content {
+        label: Label::LENGTH,
+        shape: Shape::U8,
+        registry,
+        start: Octet(start + 1),
+        end: Octet(start + 2),
+        number: length as u64,
+    };
+    lay::container_of_two(tape, at, whole, first, second, next)
+}
+
+// Lays a complete entry: its value, and then its object, type and length in front of it.
 fn entry(octets: &[u8], base: Octet, registry: Registry, tape: &mut [u64], at: Position) -> Position
     requires { ⌜ (2 ≤ length (now octets)) × Room (entryTrees usual (walked usual) (numberOf registry) (now octets) (base .0)) (length (now octets)) (base .0) (at .0) ⌝ }
     ensures { λ r. ⌜ Laid (entryTrees usual (walked usual) (numberOf registry) (now (octets .entry)) (base .0)) (now (tape .entry)) (now (tape .exit)) (at .0) (r .0) ⌝ }
 {
     let n = octets.len();
     let kind = octets[0];
+    let length = octets[1];
     let k = registry.number() as u8;
-    let source = Source { registry: k, base };
     let inside = Octet(base.0 + 2);
-    let second = number8(octets, source, Label::TYPE, 0, tape, Position(at.0 + 1));
-    let third = number8(octets, source, Label::LENGTH, 1, tape, second);
     let value = &octets[2..n];
-    let decoded = decode(value, kind, inside, registry, tape, third);
+    let decoded = decode(value, kind, inside, registry, tape, Position(at.0 + 3));
     let taken = decoded.taken;
     let after = decoded.next;
     let behind = Source {
@@ -286,7 +329,8 @@ fn entry(octets: &[u8], base: Octet, registry: Registry, tape: &mut [u64], at: P
         base: inside,
     };
     let next = rest(value, behind, taken, tape, after);
-    container(source, Label::SUB_TLV, Shape::OBJECT, n, tape, at, next);
+    let source = Source { registry: k, base };
+    entry_head(source, kind, length, n, tape, at, next);
     next
 }
 

@@ -1,6 +1,6 @@
 -- Inside the tape six words are written; outside of it, nothing.
+use mathlib.Core.Path.{refl, _∙_}
 use native.Mathlib.Omega.{arith}
-use lib.ListN.{length-set}
 use Rattle.tape.specs.TapeLaws.{put-inside, put-outside}
 use borrow.Author.Needs.{needs}
 use Rattle.tape.proofs.words.put.Statement.{statement}
@@ -15,90 +15,17 @@ add-b c = search needs
 add-if1 : tie.Need-add-if1
 add-if1 c = search needs
 
-mul-tape : tie.Need-mul-tape
-mul-tape c = search needs
-
-slice-write-tape : tie.Need-slice-write-tape
-slice-write-tape c = search needs
-
-add-tape : tie.Need-add-tape
-add-tape c = search needs
-
-mul-tape-2 : tie.Need-mul-tape-2
-mul-tape-2 c = search needs
-
-slice-write-tape-2 : tie.Need-slice-write-tape-2
-slice-write-tape-2 c = simp length-set (omega arith)
-
-add-tape-2 : tie.Need-add-tape-2
-add-tape-2 c = search needs
-
-mul-tape-3 : tie.Need-mul-tape-3
-mul-tape-3 c = search needs
-
-slice-write-tape-3 : tie.Need-slice-write-tape-3
-slice-write-tape-3 c = simp length-set (omega arith)
-
-add-tape-3 : tie.Need-add-tape-3
-add-tape-3 c = search needs
-
-mul-tape-4 : tie.Need-mul-tape-4
-mul-tape-4 c = search needs
-
-slice-write-tape-4 : tie.Need-slice-write-tape-4
-slice-write-tape-4 c = simp length-set (omega arith)
-
-add-tape-4 : tie.Need-add-tape-4
-add-tape-4 c = search needs
-
-mul-tape-5 : tie.Need-mul-tape-5
-mul-tape-5 c = search needs
-
-slice-write-tape-5 : tie.Need-slice-write-tape-5
-slice-write-tape-5 c = simp length-set (omega arith)
-
-add-tape-5 : tie.Need-add-tape-5
-add-tape-5 c = search needs
-
-mul-tape-6 : tie.Need-mul-tape-6
-mul-tape-6 c = search needs
-
-slice-write-tape-6 : tie.Need-slice-write-tape-6
-slice-write-tape-6 c = simp length-set (omega arith)
+write-requires : tie.Need-write-requires
+write-requires c κs = search needs
 
 same-length : tie.Need-same-length
-same-length c = simp length-set (omega arith)
+same-length c = search needs
 
 returns : tie.Need-returns
-returns c = put-inside _ _ _ (omega arith)
+returns c = c .before .before .write .ensures ∙ put-inside _ _ _ _ refl (omega (arith, c .before .before .before .before .if1 .taken))
 
 returns-2 : tie.Need-returns-2
 returns-2 c = put-outside _ _ _ (omega arith)
 
 pub put-spec : {M : Type 1} → statement M
-put-spec =
-    tie.close
-    (tie.spec
-    mul-b
-    add-b
-    add-if1
-    mul-tape
-    slice-write-tape
-    add-tape
-    mul-tape-2
-    slice-write-tape-2
-    add-tape-2
-    mul-tape-3
-    slice-write-tape-3
-    add-tape-3
-    mul-tape-4
-    slice-write-tape-4
-    add-tape-4
-    mul-tape-5
-    slice-write-tape-5
-    add-tape-5
-    mul-tape-6
-    slice-write-tape-6
-    same-length
-    returns
-    returns-2)
+put-spec = tie.close (tie.spec mul-b add-b add-if1 write-requires same-length returns returns-2)
