@@ -43,17 +43,17 @@ put-outside t at r outside = simp (lt-leb _ _ outside)
 
 -- three records, of which the last is written first
 module _ (t : List ℕ) (at : ℕ) (first second third : Record) where
-  -- inside the tape
-  pub three-inside : {u v w : List ℕ} → 4 + 6 * at + 18 ≤ length t → u ≡ sets t (4 + 6 * at + 12) (words third) → v ≡ sets u (4 + 6 * at + 6) (words second)
-      → w ≡ sets v (4 + 6 * at) (words first) → w ≡ putAt (putAt (putAt t (at + 2) third) (at + 1) second) at first
-  three-inside {u} {v} inside a b c =
-      let lu : length u ≡ length t = ap length a ∙ length-sets t (4 + 6 * at + 12) (words third) in
-      let lv : length v ≡ length t = ap length b ∙ length-sets u (4 + 6 * at + 6) (words second) ∙ lu in
-      c
-      ∙ put-inside v at (4 + 6 * at) first refl (omega (arith, lv))
-      ∙ ap (λ (l : List ℕ). putAt l at first) (b
-      ∙ put-inside u (at + 1) (4 + 6 * at + 6) second (omega arith) (omega (arith, lu))
-      ∙ ap (λ (l : List ℕ). putAt l (at + 1) second) (a ∙ put-inside t (at + 2) (4 + 6 * at + 12) third (omega arith) (omega arith)))
+  -- inside the tape, from word b on
+  pub three-inside : {u v w : List ℕ} {b : ℕ} → b ≡ 4 + 6 * at → b + 18 ≤ length t → u ≡ sets t (b + 12) (words third) → v ≡ sets u (b + 6) (words second) → w ≡ sets v b (words first)
+      → w ≡ putAt (putAt (putAt t (at + 2) third) (at + 1) second) at first
+  three-inside {u} {v} {b = b} is inside x y z =
+      let lu : length u ≡ length t = ap length x ∙ length-sets t (b + 12) (words third) in
+      let lv : length v ≡ length t = ap length y ∙ length-sets u (b + 6) (words second) ∙ lu in
+      z
+      ∙ put-inside v at b first is (omega (arith, lv))
+      ∙ ap (λ (l : List ℕ). putAt l at first) (y
+      ∙ put-inside u (at + 1) (b + 6) second (omega (arith, is)) (omega (arith, lu))
+      ∙ ap (λ (l : List ℕ). putAt l (at + 1) second) (x ∙ put-inside t (at + 2) (b + 12) third (omega (arith, is)) (omega arith)))
 
   -- the last one outside of it
   pub three-outside : {u v : List ℕ} → length t < 4 + 6 * at + 18 → u ≡ putAt t (at + 1) second → v ≡ putAt u at first → v ≡ putAt (putAt (putAt t (at + 2) third) (at + 1) second) at first

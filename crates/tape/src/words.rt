@@ -9,6 +9,14 @@ ghost use lib.Seq.{sets};
 ghost use Rattle.tape.specs.Record.{words};
 ghost use Rattle.tape.specs.Tape.{putAt, recordAt};
 
+// The first word of the record at position `at`.
+fn first_word(at: Position) -> usize
+    requires { ⌜ at .0 < 2 ^ 61 ⌝ }
+    ensures { λ r. ⌜ r ≡ 4 + 6 * at .0 ⌝ }
+{
+    4 + 6 * at.0
+}
+
 // Writes the six words of `r` from word `b` on.
 fn write(tape: &mut [u64], b: usize, r: Record)
     requires { ⌜ b + 6 ≤ length (now tape) ⌝ }
@@ -27,7 +35,7 @@ pub fn put(tape: &mut [u64], at: Position, r: Record)
     requires { ⌜ at .0 < 2 ^ 60 + 1 ⌝ }
     ensures { λ _. ⌜ now (tape .exit) ≡ putAt (now (tape .entry)) (at .0) r ⌝ }
 {
-    let b = 4 + 6 * at.0;
+    let b = first_word(at);
     if b + 6 <= tape.len() {
         write(tape, b, r);
     }
@@ -39,7 +47,7 @@ pub fn put_three(tape: &mut [u64], at: Position, first: Record, second: Record, 
     ensures { λ _. ⌜ now (tape .exit) ≡ putAt (putAt (putAt (now (tape .entry)) (at .0 + 2) third) (at .0 + 1) second) (at .0) first ⌝ }
 {
     let p = at.0;
-    let b = 4 + 6 * p;
+    let b = first_word(at);
     if b + 18 <= tape.len() {
         write(tape, b + 12, third);
         write(tape, b + 6, second);
@@ -55,7 +63,7 @@ pub fn get(tape: &[u64], at: Position) -> Record
     requires { ⌜ 4 + 6 * at .0 + 6 ≤ length (now tape) ⌝ }
     ensures { λ r. ⌜ r ≡ recordAt (now (tape .entry)) (at .0) ⌝ }
 {
-    let b = 4 + 6 * at.0;
+    let b = first_word(at);
     Record {
         tag: tape[b],
         start: Octet(tape[b + 1] as usize),

@@ -25,7 +25,7 @@ module _ (k : ℕ) (e : List ℕ) (base : ℕ) where
       → Reads (reading k (getD e 0 0) (drop 2 e) (base + 2)) t u (at + 3) d
       → Laid (restOf registry (drop 2 e) (base + 2) (d .taken)) u v (d .next .0) next
       → w ≡ putAt (putAt (putAt v (at + 2) (leafRecord (content 1 0 registry (base + 1) (base + 2) (getD e 1 0)))) (at + 1) (leafRecord (content 0 0 registry base (base + 1) (getD e 0 0)))) at
-          (containerRecord (content 47 8 registry base (base + length e) 0) (at + 1) next)
+      (containerRecord (content 47 8 registry base (base + length e) 0) (at + 1) next)
       → Laid (entryTrees usual (walked usual) k e base) t w at next
   unfolding entryTrees _⧺_
   entry-made registry same decoded rest put =

@@ -4,11 +4,8 @@ use native.Mathlib.Omega.{arith}
 use Rattle.tape.proofs.words.get.Statement.{statement}
 use Rattle.tape.proofs.words.get.Tie as tie
 
-mul-b : tie.Need-mul-b
-mul-b c = omega arith
-
-add-b : tie.Need-add-b
-add-b c = omega arith
+first-word-requires : tie.Need-first-word-requires
+first-word-requires c κs = omega arith
 
 mul-t4 : tie.Need-mul-t4
 mul-t4 c = omega arith
@@ -62,7 +59,7 @@ shared-slice-read-t32 : tie.Need-shared-slice-read-t32
 shared-slice-read-t32 c = omega arith
 
 returns : tie.Need-returns
-returns c = refl
+returns c = rw (c .before .before .before .before .before .before .first-word .ensures) refl
 
 pub get-spec : {M : Type 1} → statement M
-get-spec = tie.close (tie.spec mul-b add-b mul-t4 shared-slice-read-t6 add-t7 mul-t8 shared-slice-read-t10 add-t13 mul-t14 shared-slice-read-t16 add-t19 mul-t20 shared-slice-read-t22 add-t23 mul-t24 shared-slice-read-t26 add-t29 mul-t30 shared-slice-read-t32 returns)
+get-spec = tie.close (tie.spec first-word-requires mul-t4 shared-slice-read-t6 add-t7 mul-t8 shared-slice-read-t10 add-t13 mul-t14 shared-slice-read-t16 add-t19 mul-t20 shared-slice-read-t22 add-t23 mul-t24 shared-slice-read-t26 add-t29 mul-t30 shared-slice-read-t32 returns)

@@ -1,16 +1,13 @@
 -- Inside the tape six words are written; outside of it, nothing.
-use mathlib.Core.Path.{refl, _∙_}
+use mathlib.Core.Path.{_∙_}
 use native.Mathlib.Omega.{arith}
 use Rattle.tape.specs.TapeLaws.{put-inside, put-outside}
 use borrow.Author.Needs.{needs}
 use Rattle.tape.proofs.words.put.Statement.{statement}
 use Rattle.tape.proofs.words.put.Tie as tie
 
-mul-b : tie.Need-mul-b
-mul-b c = search needs
-
-add-b : tie.Need-add-b
-add-b c = search needs
+first-word-requires : tie.Need-first-word-requires
+first-word-requires c κs = search needs
 
 add-if1 : tie.Need-add-if1
 add-if1 c = search needs
@@ -22,10 +19,10 @@ same-length : tie.Need-same-length
 same-length c = search needs
 
 returns : tie.Need-returns
-returns c = c .before .before .write .ensures ∙ put-inside _ _ _ _ refl (omega (arith, c .before .before .before .before .if1 .taken))
+returns c = c .before .before .write .ensures ∙ put-inside _ _ _ _ (c .before .before .before .before .before .first-word .ensures) (omega (arith, c .before .before .before .before .if1 .taken))
 
 returns-2 : tie.Need-returns-2
-returns-2 c = put-outside _ _ _ (omega arith)
+returns-2 c = put-outside _ _ _ (omega (arith, c .before .first-word .ensures))
 
 pub put-spec : {M : Type 1} → statement M
-put-spec = tie.close (tie.spec mul-b add-b add-if1 write-requires same-length returns returns-2)
+put-spec = tie.close (tie.spec first-word-requires add-if1 write-requires same-length returns returns-2)

@@ -5,11 +5,8 @@ use borrow.Author.Needs.{needs}
 use Rattle.tape.proofs.words.put_three.Statement.{statement}
 use Rattle.tape.proofs.words.put_three.Tie as tie
 
-mul-b : tie.Need-mul-b
-mul-b c = search needs
-
-add-b : tie.Need-add-b
-add-b c = search needs
+first-word-requires : tie.Need-first-word-requires
+first-word-requires c κs = search needs
 
 add-if1 : tie.Need-add-if1
 add-if1 c = search needs
@@ -42,20 +39,19 @@ same-length : tie.Need-same-length
 same-length c = search needs
 
 returns : tie.Need-returns
-returns c = three-inside _ _ _ _ _ (omega (arith, c .before .before .before .before .before .before .before .before .before .before .before .before .if1 .taken)) (c .before .before .before .before .before .before .before .before .before .before .write .ensures) (c .before .before .before .before .before .before .write2 .ensures) (c .before .before .write3 .ensures)
+returns c = three-inside _ _ _ _ _ (c .before .before .before .before .before .before .before .before .before .before .before .before .before .first-word .ensures) (omega (arith, c .before .before .before .before .before .before .before .before .before .before .before .before .if1 .taken)) (c .before .before .before .before .before .before .before .before .before .before .write .ensures) (c .before .before .before .before .before .before .write2 .ensures) (c .before .before .write3 .ensures)
 
 same-length-2 : tie.Need-same-length-2
 same-length-2 c = search needs
 
 returns-2 : tie.Need-returns-2
-returns-2 c = three-outside _ _ _ _ _ (omega (arith, c .before .before .before .before .before .before .before .before .if1 .left)) (c .before .before .before .before .before .before .put .ensures) (c .before .before .put2 .ensures)
+returns-2 c = three-outside _ _ _ _ _ (omega (arith, c .before .before .before .before .before .before .before .before .if1 .left, c .before .before .before .before .before .before .before .before .before .first-word .ensures)) (c .before .before .before .before .before .before .put .ensures) (c .before .before .put2 .ensures)
 
 pub put-three-spec : {M : Type 1} → statement M
 put-three-spec =
     tie.close
     (tie.spec
-    mul-b
-    add-b
+    first-word-requires
     add-if1
     add-write
     write-requires
