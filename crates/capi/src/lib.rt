@@ -38,16 +38,16 @@ pub extern "C" fn wakkemosut_name(registry: u64, t: u64, out: &mut [u8], numbers
 
 // Either call on an area, and its outcome to `numbers`.
 fn numbered(
-    call: Call,
     area: &[u8],
     base: u64,
     registry: u64,
     tape: &mut [u64],
     numbers: &mut [u64; 4],
+    call: Call,
 )
     ensures { λ _. ⌜ GivesNumbers (areaCall (shownBy call) registry (now (area .entry)) base (now (tape .entry))) (now (numbers .exit)) (now (tape .exit)) ⌝ }
 {
-    let outcome = area_call(call, area, Octet(base as usize), registry, tape);
+    let outcome = area_call(call, &area[..], Octet(base as usize), registry, tape);
     *numbers = outcome.numbers();
 }
 
@@ -62,7 +62,7 @@ pub extern "C" fn wakkemosut_walk(
 )
     ensures { λ _. ⌜ GivesNumbers (walkCall registry (now (area .entry)) base (now (tape .entry))) (now (numbers .exit)) (now (tape .exit)) ⌝ }
 {
-    numbered(Call::Walk, area, base, registry, tape, numbers)
+    numbered(area, base, registry, tape, numbers, Call::Walk)
 }
 
 // Writes the same, and a `raw` record beside it for the octets that are left, if there are any.
@@ -76,7 +76,7 @@ pub extern "C" fn wakkemosut_push(
 )
     ensures { λ _. ⌜ GivesNumbers (pushCall registry (now (area .entry)) base (now (tape .entry))) (now (numbers .exit)) (now (tape .exit)) ⌝ }
 {
-    numbered(Call::Push, area, base, registry, tape, numbers)
+    numbered(area, base, registry, tape, numbers, Call::Push)
 }
 
 // Writes the header of a tape without records, and the outcome to `numbers`.

@@ -40,7 +40,7 @@ fn show(
     ensures { λ r. ⌜ Shows (covered (now (area .entry))) (shownBy call (numberOf registry) (now (area .entry)) (base .0)) (now (tape .entry)) (now (tape .exit)) (at .0) r ⌝ }
 {
     match call {
-        Call::Walk => walk::walk(area, base, registry, tape, at),
+        Call::Walk => walk::walk(&area[..], base, registry, tape, at),
         Call::Push => walk::push(area, base, registry, tape, at),
     }
 }

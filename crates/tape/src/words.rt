@@ -1,4 +1,4 @@
-// One function that writes a record's six words, and one that reads them.
+// The words of records: written where they lie inside the tape, and read.
 use crate::Octet;
 use crate::Position;
 use crate::Record;
@@ -41,7 +41,7 @@ pub fn put(tape: &mut [u64], at: Position, r: Record)
     }
 }
 
-// Writes three records from position `at` on, as `put` does each.
+// Writes three records from position `at` on, each where its words lie inside the tape.
 pub fn put_three(tape: &mut [u64], at: Position, first: Record, second: Record, third: Record)
     requires { ⌜ at .0 < 2 ^ 60 ⌝ }
     ensures { λ _. ⌜ now (tape .exit) ≡ putAt (putAt (putAt (now (tape .entry)) (at .0 + 2) third) (at .0 + 1) second) (at .0) first ⌝ }
