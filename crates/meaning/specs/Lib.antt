@@ -19,5 +19,6 @@ pub mod Area
 pub mod AreaLaws
 pub mod AreaCall
 pub mod AreaCallLaws
+pub mod Answers
 pub mod Theorems
 pub mod Examples

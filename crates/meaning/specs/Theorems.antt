@@ -1,10 +1,12 @@
 -- What holds of the definitions.
 
 -- demand 3: one entry cannot speak for another
-pub mod Apart
-pub mod ApartLaws
 pub mod Form
 pub mod FormLaws
+pub mod Entries
+pub mod EntriesLaws
+pub mod OneEntry
+pub mod OneEntryLaws
 -- what is asked of a reading
 pub mod Plan
 pub mod PlanLaws
@@ -28,5 +30,7 @@ pub mod Unroll
 -- old records change nothing
 pub mod OldRecords
 pub mod OldRecordsLaws
+-- every call answers by the lines of the table
+pub mod AnswersLaws
 -- the calls, by the table's reading
 pub mod TheCalls

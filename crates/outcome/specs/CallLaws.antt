@@ -1,5 +1,5 @@
 -- Laws of the calls' contracts.
-use mathlib.Core.Path.{_≡_, sym, _∙_, ap}
+use mathlib.Core.Path.{_≡_, refl, sym, _∙_, ap}
 use mathlib.Core.List.{List}
 use Prim.Native.Nat.{ℕ}
 use Rattle.outcome.specs.Call.{After, Gives, GivesNumbers, numbersOf}
@@ -13,9 +13,17 @@ gives-unique a b = (a .gave ∙ sym (b .gave), a .left ∙ sym (b .left))
 pub numbers-unique : {meant : After} {one other exit exit′ : List ℕ} → GivesNumbers meant one exit → GivesNumbers meant other exit′ → (one ≡ other) × (exit ≡ exit′)
 numbers-unique a b = (a .gave ∙ sym (b .gave), a .left ∙ sym (b .left))
 
+-- a result that meets a call's contract is what the definition says
+pub gives-after : {meant : After} {outcome : Outcome} {exit : List ℕ} → Gives meant outcome exit → record { outcome = outcome; lent = exit } ≡ meant
+gives-after a = λ j. record { outcome = a .gave j; lent = a .left j }
+
 -- from the one contract to the other
 pub gives-numbers : {meant : After} {outcome : Outcome} {numbers exit : List ℕ} → numbers ≡ numbersOf outcome → Gives meant outcome exit → GivesNumbers meant numbers exit
 gives-numbers {meant} wrote a = record { gave = wrote ∙ ap numbersOf (a .gave); left = a .left }
+
+-- and back: over the C boundary an outcome crossed that met the call's contract
+pub numbers-gives : {meant : After} {numbers exit : List ℕ} → GivesNumbers meant numbers exit → (outcome : Outcome) × (numbers ≡ numbersOf outcome) × Gives meant outcome exit
+numbers-gives {meant} a = (meant .outcome, a .gave, record { gave = refl; left = a .left })
 
 -- a contract follows from that of an equal definition
 pub gives-as : {meant same : After} {outcome : Outcome} {exit : List ℕ} → meant ≡ same → Gives same outcome exit → Gives meant outcome exit

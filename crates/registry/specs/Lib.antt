@@ -3,6 +3,5 @@ pub mod RegistryLaws
 pub mod Names
 pub mod NameCall
 pub mod NameCallLaws
-pub mod NameAnswers
 pub mod Packed
 pub mod PackedLaws

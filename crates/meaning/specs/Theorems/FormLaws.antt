@@ -1,4 +1,4 @@
--- Every complete entry of every area stands as demand 3 speaks of, and so does every area that differs in its value.
+-- Every area that differs only inside the value of one complete entry has the same frame.
 use mathlib.Core.Path.{_≡_, refl, sym, ap, _∙_}
 use mathlib.Core.Logic.{_⊎_, inl, inr, ⊎-elim}
 use mathlib.Core.Bool.{true}
@@ -11,19 +11,46 @@ use lib.Dec.{leb}
 use lib.ListN.{length, getD, take, drop, length-append, length-drop, take-append-drop, List·getD-append}
 use lib.Seq.{length-take-le, getD-take, getD-drop, ext-getD, getD-append-add}
 use Rattle.meaning.specs.Cut.{total}
-use Rattle.meaning.specs.CutLaws.{pieces-stop, pieces-step}
+use Rattle.meaning.specs.CutLaws.{pieces-stop, pieces-step, total-++}
 use Rattle.meaning.specs.Frame.{entryLength, entries, covered, remainder}
-use Rattle.meaning.specs.FrameLaws.{passed, entry, entry-fits, entries-none, covered-none, entries-entry, covered-entry}
-use Rattle.meaning.specs.Field.{Plan}
-use Rattle.meaning.specs.Value.{Walk}
-use Rattle.meaning.specs.Theorems.Apart.{Ending, with, Apart}
-use Rattle.meaning.specs.Theorems.ApartLaws.{entries-with, apart}
-use Rattle.meaning.specs.Theorems.Form.{Stands, Differ, Other, OneEntry}
+use Rattle.meaning.specs.FrameLaws.{passed, entry, entry-fits, entries-none, covered-none, entries-++, remainder-++, entries-entry, covered-entry, remainder-entry}
+use Rattle.meaning.specs.Theorems.Form.{Differ, SameFrame}
+
+-- an area with the entry of type t and value v between pre and post
+abbrev with : List ℕ → List ℕ → ℕ → List ℕ → List ℕ
+with pre post t v = pre ++ (entry t v ++ post)
+
+-- the framing of an area with an entry between pre and post
+
+module _ (pre post : List ℕ) (whole : covered pre ≡ length pre) (t : ℕ) (v : List ℕ) where
+  entries-with : entries (with pre post t v) ≡ entries pre ++ entry t v ∷ entries post
+  entries-with = entries-++ pre (entry t v ++ post) whole ∙ ap (λ (ps : List (List ℕ)). entries pre ++ ps) (entries-entry t v post)
+
+  remainder-with : remainder (with pre post t v) ≡ remainder post
+  remainder-with = remainder-++ pre (entry t v ++ post) whole ∙ remainder-entry t v post
+
+-- the entry q of an area stands between a part that is covered whole, with the entries ps, and the rest, with the entries us
+record Stands (area : List ℕ) (ps : List (List ℕ)) (q : List ℕ) (us : List (List ℕ)) : Type 0 where
+  pub pre : List ℕ
+  pub type : ℕ
+  pub value : List ℕ
+  pub post : List ℕ
+  pub whole : covered pre ≡ length pre
+  pub earlier : entries pre ≡ ps
+  pub itself : q ≡ entry type value
+  pub later : entries post ≡ us
+  pub all : area ≡ with pre post type value
+
+-- another area has the same form, with another value of the same length
+record Other (a′ pre post : List ℕ) (t : ℕ) (v : List ℕ) : Type 0 where
+  pub value : List ℕ
+  pub same-length : length v ≡ length value
+  pub all : a′ ≡ with pre post t value
 
 -- every complete entry stands so
 
 -- what stands in front of an area that has an entry there
-pub record Front (a p : List ℕ) (ps : List (List ℕ)) : Type 0 where
+record Front (a p : List ℕ) (ps : List (List ℕ)) : Type 0 where
   pub type : ℕ
   pub value : List ℕ
   pub rest : List ℕ
@@ -58,7 +85,7 @@ front a p ps e = ⊎-elim (λ none. absurd (nil≢cons (sym (pieces-stop entryLe
           all = sym (take-append-drop (entryLength a) a) ∙ ap (λ (l : List ℕ). l ++ drop (entryLength a) a) (f .2);
         }
 
-pub stands : (ps : List (List ℕ)) (area q : List ℕ) (us : List (List ℕ)) → entries area ≡ ps ++ q ∷ us → Stands area ps q us
+stands : (ps : List (List ℕ)) (area q : List ℕ) (us : List (List ℕ)) → entries area ≡ ps ++ q ∷ us → Stands area ps q us
 stands [] area q us e =
     let f = front area q us e in
     record { pre = []; type = f .type; value = f .value; post = f .rest; whole = covered-none; earlier = entries-none; itself = f .itself; later = f .later; all = f .all }
@@ -117,7 +144,7 @@ module _ (x v y b : List ℕ) (same : length (x ++ (v ++ y)) ≡ length b)
       ∙ ap (λ (l : List ℕ). l ++ drop (length x) b) first
       ∙ ap (λ (l : List ℕ). x ++ l) (sym (take-append-drop (length v) (drop (length x) b)) ∙ ap (λ (l : List ℕ). take (length v) (drop (length x) b) ++ l) last)
 
-pub differs : (pre post : List ℕ) (t : ℕ) (v a′ : List ℕ) → Differ (with pre post t v) a′ (length pre + 2) (length v) → Other a′ pre post t v
+differs : (pre post : List ℕ) (t : ℕ) (v a′ : List ℕ) → Differ (with pre post t v) a′ (length pre + 2) (length v) → Other a′ pre post t v
 differs pre post t v a′ d =
     let head : List ℕ = t ∷ length v ∷ [] in
     let x : List ℕ = pre ++ head in
@@ -134,7 +161,7 @@ differs pre post t v a′ d =
       all = rejoined x v post a′ same outside ∙ append-assoc pre head (w ++ post) ∙ ap (λ (n : ℕ). pre ++ (t ∷ n ∷ (w ++ post))) length-w;
     }
 
--- demand 3, whichever complete entry of whichever area it is, and whatever stands in its value
+-- the frame
 
 -- where the entry's value lies
 value-place : (area : List ℕ) (ps : List (List ℕ)) (q : List ℕ) (us : List (List ℕ)) (s : Stands area ps q us) → (length (s .pre) + 2 ≡ total ps + 2) × (length (s .value) ≡ length q - 2)
@@ -142,24 +169,41 @@ unfolding covered
 value-place area ps q us s =
     (ap (λ (n : ℕ). n + 2) (sym (s .whole) ∙ ap total (s .earlier)), omega (arith, ap length (s .itself)))
 
-pub one-entry : (e : Ending) (plan : Plan) (walk : Walk) (registry base at : ℕ) (a a′ : List ℕ) (ps : List (List ℕ)) (q : List ℕ) (us : List (List ℕ))
-    → entries a ≡ ps ++ q ∷ us → Differ a a′ (total ps + 2) (length q - 2) → OneEntry e plan walk registry base at a a′ ps q us
-one-entry e plan walk registry base at a a′ ps q us found d =
+-- one entry for another of its size
+module _ (ps : List (List ℕ)) (q q′ : List ℕ) (us : List (List ℕ)) where
+  count-same : length (ps ++ q ∷ us) ≡ length (ps ++ q′ ∷ us)
+  count-same = length-append ps (q ∷ us) ∙ sym (length-append ps (q′ ∷ us))
+
+  total-same : length q ≡ length q′ → total (ps ++ q ∷ us) ≡ total (ps ++ q′ ∷ us)
+  unfolding total
+  total-same same = total-++ ps (q ∷ us) ∙ ap (λ (n : ℕ). total ps + (n + total us)) same ∙ sym (total-++ ps (q′ ∷ us))
+
+-- whichever complete entry of whichever area it is, and whatever stands in its value
+pub same-frame : (a a′ : List ℕ) (ps : List (List ℕ)) (q : List ℕ) (us : List (List ℕ)) → entries a ≡ ps ++ q ∷ us → Differ a a′ (total ps + 2) (length q - 2)
+    → (q′ : List ℕ) × SameFrame a a′ ps q q′ us
+unfolding covered
+same-frame a a′ ps q us found d =
     let s : Stands a ps q us = stands ps a q us found in
     let place = value-place a ps q us s in
     let d′ : Differ (with (s .pre) (s .post) (s .type) (s .value)) a′ (length (s .pre) + 2) (length (s .value)) = rw (← s .all, place .0, place .1) d in
-    let other : Other a′ (s .pre) (s .post) (s .type) (s .value) = differs (s .pre) (s .post) (s .type) (s .value) a′ d′ in
-    let x : Apart e plan walk registry base at (s .pre) (s .post) (s .type) (s .value) (other .value) = apart e plan walk registry base at (s .pre) (s .post) (s .type) (s .whole) (s .value) (other .value) (other .same-length) in
-    record {
-      stands = s;
-      other = other;
-      same-count = ap (λ (l : List ℕ). length (entries l)) (s .all) ∙ x .same-count ∙ sym (ap (λ (l : List ℕ). length (entries l)) (other .all));
-      same-covered = ap covered (s .all) ∙ x .same-covered ∙ sym (ap covered (other .all));
-      same-remainder = ap remainder (s .all) ∙ x .same-remainder ∙ sym (ap remainder (other .all));
-      same-entries =
-          ap entries (other .all)
-          ∙ entries-with (s .pre) (s .post) (s .whole) (s .type) (other .value)
-          ∙ ap (λ (l : List (List ℕ)). l ++ entry (s .type) (other .value) ∷ entries (s .post)) (s .earlier)
-          ∙ ap (λ (l : List (List ℕ)). ps ++ entry (s .type) (other .value) ∷ l) (s .later);
-      apart = x;
-    }
+    let o : Other a′ (s .pre) (s .post) (s .type) (s .value) = differs (s .pre) (s .post) (s .type) (s .value) a′ d′ in
+    let same : length q ≡ length (entry (s .type) (o .value)) = ap length (s .itself) ∙ ap (λ (n : ℕ). suc (suc n)) (o .same-length) in
+    let q′ : List ℕ = entry (s .type) (o .value) in
+    let others′ : entries a′ ≡ ps ++ q′ ∷ us =
+    ap entries (o .all)
+    ∙ entries-with (s .pre) (s .post) (s .whole) (s .type) (o .value)
+    ∙ ap (λ (l : List (List ℕ)). l ++ q′ ∷ entries (s .post)) (s .earlier)
+    ∙ ap (λ (l : List (List ℕ)). ps ++ q′ ∷ l) (s .later) in (
+      q′,
+      record {
+        same-head = ap (take 2) (s .itself) ∙ ap (λ (n : ℕ). s .type ∷ n ∷ []) (o .same-length);
+        same-size = same;
+        others = others′;
+        same-count = ap length found ∙ count-same ps q q′ us ∙ sym (ap length others′);
+        same-covered = ap total found ∙ total-same ps q q′ us same ∙ sym (ap total others′);
+        same-remainder =
+            ap remainder (s .all)
+            ∙ remainder-with (s .pre) (s .post) (s .whole) (s .type) (s .value)
+            ∙ sym (ap remainder (o .all) ∙ remainder-with (s .pre) (s .post) (s .whole) (s .type) (o .value));
+      },
+    )

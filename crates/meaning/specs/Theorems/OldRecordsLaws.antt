@@ -10,7 +10,8 @@ use borrow.Author.Tests.{le-leb, lt-leb, leb-true}
 use lib.Dec.{leb}
 use lib.ListN.{length, getD, take, length-take}
 use lib.Seq.{getD-take, ext-getD}
-use Rattle.outcome.specs.Call.{refused, refusal, noRoom}
+use Rattle.outcome.specs.Call.{Gives, refused, refusal, noRoom}
+use Rattle.outcome.specs.CallLaws.{gives-after}
 use Rattle.outcome.specs.declared.Outcome.{Outcome}
 use Rattle.registry.specs.Registry.{numberOf, registryOf}
 use Rattle.registry.specs.declared.Found.{Found}
@@ -117,6 +118,8 @@ module _ (t u : List ℕ) (alike : Alike t u) where
       go true true false is = unmoved-refused (refused 4) refl
       go true true true is = unmoved-fitted octets trees is
 
--- old records change nothing
-pub unmoved : (shows : Walk) (registry : ℕ) (area : List ℕ) (base : ℕ) (t u : List ℕ) → Alike t u → Unmoved t u (areaCall shows registry area base t) (areaCall shows registry area base u)
-unmoved shows registry area base t u alike = unmoved-in t u alike shows (registryOf registry) area base
+-- old records change nothing: of any two results that meet the call's contract, on the one tape and on the other
+pub old-records : (shows : Walk) (registry : ℕ) (area : List ℕ) (base : ℕ) (t u : List ℕ) → Alike t u → {o o′ : Outcome} {x x′ : List ℕ}
+    → Gives (areaCall shows registry area base t) o x → Gives (areaCall shows registry area base u) o′ x′
+    → Unmoved t u (record { outcome = o; lent = x }) (record { outcome = o′; lent = x′ })
+old-records shows registry area base t u alike ran ran′ = rw (gives-after ran, gives-after ran′) (unmoved-in t u alike shows (registryOf registry) area base)

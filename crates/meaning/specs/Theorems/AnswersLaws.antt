@@ -1,0 +1,210 @@
+-- Every call answers by the table's lines: each answer comes when its line says so, and only then, and a refusal changes nothing.
+use mathlib.Core.Path.{_≡_, refl, sym, ap, _∙_, subst}
+use mathlib.Core.Logic.{_⊎_, inl, inr}
+use mathlib.Core.Bool.{Bool, true, false, true≢false, _&&_, cond}
+use mathlib.Core.List.{List, [], _∷_}
+use Prim.Native.Nat.{ℕ, zero, suc, _+_, _-_, _≤_, _<_}
+use native.Mathlib.Decide.{decLe}
+use native.Mathlib.Omega.{arith}
+use lib.Dec.{leb, ltb, eqb}
+use lib.ListN.{length, getD}
+use Rattle.outcome.specs.Call.{Gives, finished}
+use Rattle.outcome.specs.Call.{done as nothing}
+use Rattle.outcome.specs.Answers.{Line, Rising, Answered}
+use Rattle.outcome.specs.AnswersLaws.{Fails, fails-leb, fails-ltb, fails-eqb, fails-and, fails-as, answered-done, answered-past, answered-refused, answered-check, answered-room, answered-run}
+use Rattle.outcome.specs.declared.Outcome.{Outcome}
+use Rattle.registry.specs.Registry.{numberOf, registryOf}
+use Rattle.registry.specs.RegistryLaws.{registryOf-number, registryOf-past, numbered}
+use Rattle.registry.specs.Names.{nameOf}
+use Rattle.registry.specs.NameCall.{done, named, nameIn, nameCall}
+use Rattle.registry.specs.declared.Registry.{Registry}
+use Rattle.registry.specs.declared.Found.{Found}
+use Rattle.registry.specs.declared.Found.the-variants.{Known, Unknown}
+use Rattle.tape.specs.Record.{labelOf, shapeOf, zeros}
+use Rattle.tape.specs.Tape.{used, room, headed, withUsed, recordAt, load}
+use Rattle.tape.specs.Forest.{Forest, size}
+use Rattle.tape.specs.declared.Record.{Record}
+use Rattle.calls.specs.Calls.{cleared, clearCall, endBy, cutBackCall, readable, noRecord, readCall}
+use Rattle.calls.specs.declared.Reading.{Reading}
+use Rattle.meaning.specs.Frame.{covered}
+use Rattle.meaning.specs.Value.{Walk}
+use Rattle.meaning.specs.Answers.{noRegistry, tooLong, tooFar, noTape, noHeader, tooMany, notThere, markPast, cutsThrough, unreadable, nameLonger, areaLines, nameLines, clearLines, cutBackLines, readLines}
+use Rattle.meaning.specs.AreaCall.{longest, furthest, shown, fitted, callIn, areaCall}
+
+-- the tests of the definitions fail where the lines hold
+
+-- 4
+fails-headed : (t : List ℕ) → Fails (headed t) (noTape t .when)
+unfolding headed
+fails-headed t =
+    fails-and (leb 4 (length t)) _ (fails-leb 4 (length t))
+    (fails-and (eqb (getD t 1 0) 4) _ (fails-eqb (getD t 1 0) 4)
+    (fails-and (eqb (getD t 2 0) 6) _ (fails-eqb (getD t 2 0) 6)
+    (fails-and (eqb (getD t 3 0) 0) _ (fails-eqb (getD t 3 0) 0) (fails-leb (used t) (room t)))))
+
+-- 8
+fails-readable : (r : Record) → Fails (readable r) (unreadable r .when)
+unfolding readable
+fails-readable r =
+    fails-and (leb (labelOf r) 56) _ (fails-leb (labelOf r) 56)
+    (fails-and (leb (shapeOf r) 8) _ (fails-leb (shapeOf r) 8)
+    (fails-and (ltb (r .tag) 393216) _ (fails-ltb (r .tag) 393216) (fails-leb (r .start .0) (r .end .0))))
+
+-- 7, of n records from a position on
+abbrev Above : ℕ → List ℕ → ℕ → ℕ → Type 0
+Above n t mark at = (i : ℕ) × (at ≤ i) × (i < at + n) × (mark < recordAt t i .past .0)
+
+fails-end-by : (n : ℕ) (t : List ℕ) (mark at : ℕ) → Fails (endBy mark (load t at n)) (Above n t mark at)
+unfolding endBy load
+fails-end-by zero t mark at = (λ no′. absurd (true≢false no′), λ yes′ x. omega (arith, x .1, x .2))
+fails-end-by (suc n) t mark at =
+    fails-as to (λ x. back x (decLe (x .0) at))
+    (fails-and (leb (recordAt t at .past .0) mark) (endBy mark (load t (suc at) n)) (fails-leb (recordAt t at .past .0) mark) (fails-end-by n t mark (suc at)))
+  where
+    to : (mark < recordAt t at .past .0) ⊎ Above n t mark (suc at) → Above (suc n) t mark at
+    to (inl here) = (at, omega arith, omega arith, here)
+    to (inr x) = (x .0, omega (arith, x .1), omega (arith, x .2), x .3)
+
+    back : (x : Above (suc n) t mark at) → Dec (x .0 ≤ at) → (mark < recordAt t at .past .0) ⊎ Above n t mark (suc at)
+    back x (yes first) =
+        let same : x .0 ≡ at = omega (arith, x .1) in
+        inl (subst (λ (i : ℕ). mark < recordAt t i .past .0) same (x .3))
+    back x (no later) = inr (x .0, omega arith, omega (arith, x .2), x .3)
+
+-- clear
+
+module _ (t : List ℕ) where
+  clear-lines : Answered (clearLines t) t (clearCall t)
+  unfolding clearCall
+  clear-lines = answered-check (noHeader t) [] (leb 4 (length t)) t (finished (cleared t)) (fails-leb 4 (length t)) (answered-done t (finished (cleared t)) refl)
+
+  pub clear-answered : (o : Outcome) (x : List ℕ) → Gives (clearCall t) o x → Answered (clearLines t) t (record { outcome = o; lent = x })
+  clear-answered o x ran = answered-run (clearLines t) t o x ran clear-lines
+
+  pub clear-rising : Rising 0 (clearLines t)
+  unfolding Rising
+  clear-rising = (omega arith, tt)
+
+-- cut back
+
+module _ (t : List ℕ) (mark : ℕ) where
+  fails-cut : Fails (endBy mark (load t 0 mark)) (cutsThrough mark t .when)
+  fails-cut = fails-as (λ x. (x .0, omega (arith, x .2), x .3)) (λ x. (x .0, omega arith, omega (arith, x .1), x .2)) (fails-end-by mark t mark 0)
+
+  cut-back-lines : Answered (cutBackLines t mark) t (cutBackCall t mark)
+  unfolding cutBackCall
+  cut-back-lines =
+      answered-check (noTape t) _ (headed t) t _ (fails-headed t)
+      (answered-check (markPast mark t) _ (leb mark (used t)) t _ (fails-leb mark (used t))
+      (answered-check (cutsThrough mark t) [] (endBy mark (load t 0 mark)) t (finished (withUsed mark t)) fails-cut (answered-done t (finished (withUsed mark t)) refl)))
+
+  pub cut-back-answered : (o : Outcome) (x : List ℕ) → Gives (cutBackCall t mark) o x → Answered (cutBackLines t mark) t (record { outcome = o; lent = x })
+  cut-back-answered o x ran = answered-run (cutBackLines t mark) t o x ran cut-back-lines
+
+  pub cut-back-rising : Rising 0 (cutBackLines t mark)
+  unfolding Rising
+  cut-back-rising = (omega arith, (omega arith, (omega arith, tt)))
+
+-- read
+
+module _ (t : List ℕ) (at : ℕ) where
+  -- an answer by the lines, and a record of six zeros where it is a refusal
+  abbrev ReadAs : Reading → Type 0
+  ReadAs r = Answered (readLines t at) t (record { outcome = r .outcome; lent = t }) × ((¬ (r .outcome .answer ≡ 0)) → r .«record» ≡ zeros)
+
+  read-lines : ReadAs (readCall t at)
+  unfolding readCall
+  read-lines = go (headed t) (ltb at (used t)) (readable (recordAt t at)) (fails-headed t) (fails-ltb at (used t)) (fails-readable (recordAt t at))
+    where
+      go : (a b c : Bool) → Fails a (noTape t .when) → Fails b (notThere at t .when) → Fails c (unreadable (recordAt t at) .when)
+          → ReadAs (cond a (cond b (cond c (record { outcome = nothing; «record» = recordAt t at }) (noRecord 8)) (noRecord 6)) (noRecord 4))
+      go false b c four six eight = (answered-refused (noTape t) _ t (four .0 refl), λ not. refl)
+      go true false c four six eight = (answered-past (noTape t) _ t _ (four .1 refl) (answered-refused (notThere at t) _ t (six .0 refl)), λ not. refl)
+      go true true false four six eight = (
+        answered-past (noTape t) _ t _ (four .1 refl) (answered-past (notThere at t) _ t _ (six .1 refl) (answered-refused (unreadable (recordAt t at)) [] t (eight .0 refl))),
+        λ not. refl,
+      )
+      go true true true four six eight = (
+        answered-past (noTape t) _ t _ (four .1 refl)
+            (answered-past (notThere at t) _ t _ (six .1 refl)
+            (answered-past (unreadable (recordAt t at)) [] t _ (eight .1 refl) (answered-done t (record { outcome = nothing; lent = t }) refl))),
+        λ not. absurd (not refl),
+      )
+
+  -- what read gives; it leaves the tape
+  pub read-answered : (reading : Reading) → reading ≡ readCall t at → Answered (readLines t at) t (record { outcome = reading .outcome; lent = t })
+  read-answered reading is = rw is (read-lines .0)
+
+  -- a refused read gives a record of six zeros
+  pub read-zeros : (reading : Reading) → reading ≡ readCall t at → (¬ (reading .outcome .answer ≡ 0)) → reading .«record» ≡ zeros
+  read-zeros reading is = rw is (read-lines .1)
+
+  pub read-rising : Rising 0 (readLines t at)
+  unfolding Rising
+  read-rising = (omega arith, (omega arith, (omega arith, tt)))
+
+-- name
+
+-- a number is a registry's, and not over 5; or it is no registry's, and over 5
+abbrev KnownOrNot : ℕ → Type 0
+KnownOrNot n = ((registry : Registry) × (registryOf n ≡ Known registry) × (n ≡ numberOf registry) × (n ≤ 5)) ⊎ ((registryOf n ≡ Unknown) × (5 < n))
+
+known-or-not : (n : ℕ) → KnownOrNot n
+known-or-not n = go (decLe 6 n)
+  where
+    go : Dec (6 ≤ n) → KnownOrNot n
+    go (yes past) = inr (registryOf-past n past, omega arith)
+    go (no below) =
+        let x = numbered n (omega arith) in
+        inl (x .0, ap registryOf (sym (x .1)) ∙ registryOf-number (x .0), sym (x .1), omega arith)
+
+module _ (registry t : ℕ) (lent : List ℕ) where
+  name-lines : Answered (nameLines registry t lent) lent (nameCall registry t lent)
+  unfolding nameIn named
+  name-lines = go (known-or-not registry)
+    where
+      go : KnownOrNot registry → Answered (nameLines registry t lent) lent (nameCall registry t lent)
+      go (inl x) =
+          let name : List ℕ = nameOf (x .0) t in
+          rw (x .1)
+          (answered-past (noRegistry registry) _ lent _ (λ past. omega (arith, x .3))
+          (answered-check (nameLonger name lent) [] (leb (length name) (length lent)) lent (done name lent) (fails-leb (length name) (length lent)) (answered-done lent (done name lent) refl)))
+      go (inr x) = rw (x .0) (answered-refused (noRegistry registry) _ lent (x .1))
+
+  pub name-answered : (o : Outcome) (x : List ℕ) → Gives (nameCall registry t lent) o x → Answered (nameLines registry t lent) lent (record { outcome = o; lent = x })
+  name-answered o x ran = answered-run (nameLines registry t lent) lent o x ran name-lines
+
+  pub name-rising : Rising 0 (nameLines registry t lent)
+  unfolding Rising
+  name-rising = (omega arith, (omega arith, tt))
+
+-- walk and push
+
+module _ (shows : Walk) (registry : ℕ) (area : List ℕ) (base : ℕ) (t : List ℕ) where
+  area-lines : Answered (areaLines shows registry area base t) t (areaCall shows registry area base t)
+  unfolding callIn fitted
+  area-lines = go (known-or-not registry)
+    where
+      known : (r : Registry) → numberOf r ≤ 5 → Answered (areaLines shows (numberOf r) area base t) t (callIn shows (Known r) area base t)
+      known r low =
+          let trees : Forest = shows (numberOf r) area base in
+          answered-past (noRegistry (numberOf r)) _ t _ (λ past. omega (arith, low))
+          (answered-check (tooLong area) _ (leb (length area) longest) t _ (fails-leb (length area) longest)
+          (answered-check (tooFar area base) _ (leb (base + length area) furthest) t _ (fails-leb (base + length area) furthest)
+          (answered-check (noTape t) _ (headed t) t _ (fails-headed t)
+          (answered-room (tooMany (size trees) t) (leb (size trees) (room t - used t)) t (shown (covered area) trees t) (size trees) refl (fails-leb (size trees) (room t - used t))
+          (answered-done t (shown (covered area) trees t) refl)))))
+
+      go : KnownOrNot registry → Answered (areaLines shows registry area base t) t (areaCall shows registry area base t)
+      go (inl x) =
+          rw (x .1)
+          (subst (λ (n : ℕ). Answered (areaLines shows n area base t) t (callIn shows (Known (x .0)) area base t)) (sym (x .2)) (known (x .0) (subst (λ (n : ℕ). n ≤ 5) (x .2) (x .3))))
+      go (inr x) = rw (x .0) (answered-refused (noRegistry registry) _ t (x .1))
+
+  -- for walk shows is `walked usual`, and for push `pushed usual`
+  pub area-answered : (o : Outcome) (x : List ℕ) → Gives (areaCall shows registry area base t) o x → Answered (areaLines shows registry area base t) t (record { outcome = o; lent = x })
+  area-answered o x ran = answered-run (areaLines shows registry area base t) t o x ran area-lines
+
+  pub area-rising : Rising 0 (areaLines shows registry area base t)
+  unfolding Rising
+  area-rising = (omega arith, (omega arith, (omega arith, (omega arith, (omega arith, tt)))))
