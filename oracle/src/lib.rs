@@ -31,7 +31,7 @@ pub use dump::dump;
 pub use names::{listing, name};
 pub use records::{Push, Record, push};
 pub use registry::LAST_REGISTRY;
-pub use replay::replay;
+pub use replay::{lies, replay};
 
 use std::io::{self, Write};
 

@@ -37,8 +37,57 @@ const GREAT_AREAS: [(u8, &[u8], usize); 8] = [
     (5, &[0xFF], MOST_OCTETS),
 ];
 
-/// The list: one case after the other.
+/// The area that the false cases are about: flags, and one range with its SID.
+const LIED_ABOUT: (u8, [u8; 11]) = (
+    2,
+    [
+        0x02, 0x09, 0xC0, 0x00, 0x03, 0xE8, 0x01, 0x03, 0x00, 0x3E, 0x80,
+    ],
+);
+
+/// The octets of a case before its area.
+const HEAD: usize = 11;
+
+/// The octets of a record in a case.
+const RECORD: usize = 19;
+
+/// The list: what the module gives, one case after the other, and then the false cases.
 pub fn replay() -> Vec<u8> {
+    [answers(), lies()].concat()
+}
+
+/// Cases that say something else than the module gives: each octet of covered and of every record
+/// changed by one bit, one record left out, and one too many.
+pub fn lies() -> Vec<u8> {
+    let (registry, octets) = LIED_ABOUT;
+    let area = area(registry, octets.to_vec());
+    let truth = case(1, &area);
+    let records = HEAD + area.octets.len();
+    let places = [7, 8].into_iter().chain(records..truth.len());
+    let changed = places.map(|place| with_a_bit_changed(&truth, place));
+    let fewer = with_count(&truth, truth.len() - RECORD, records);
+    let more = with_count(&truth, truth.len() + RECORD, records);
+    changed.chain([fewer, more]).collect::<Vec<_>>().concat()
+}
+
+/// A case with the lowest bit of one octet the other way.
+fn with_a_bit_changed(case: &[u8], place: usize) -> Vec<u8> {
+    let mut changed = case.to_vec();
+    changed[place] ^= 1;
+    changed
+}
+
+/// A case cut off, or filled up with zeros, to this length, and the count of records that it then has.
+fn with_count(case: &[u8], length: usize, records: usize) -> Vec<u8> {
+    let mut changed = case.to_vec();
+    changed.resize(length, 0);
+    let count = (length - records) / RECORD;
+    changed[9..HEAD].copy_from_slice(&two_octets(count as u64));
+    changed
+}
+
+/// What the module gives, one case after the other.
+fn answers() -> Vec<u8> {
     let mut met = HashSet::new();
     let areas = all_areas().into_iter();
     let areas = areas.filter(|area| area.octets.len() <= MOST_OCTETS);

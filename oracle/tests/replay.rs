@@ -4,7 +4,7 @@ mod table;
 
 use std::collections::HashSet;
 
-use oracle::{LAST_REGISTRY, Push, Record, push, replay};
+use oracle::{LAST_REGISTRY, Push, Record, lies, push, replay};
 use table::ROWS;
 
 /// The stored list.
@@ -91,9 +91,18 @@ fn take_case(list: &mut &'static [u8]) -> Case {
     }
 }
 
-/// All cases of the stored list.
+/// The stored list in two: what the Rust gives, and the false cases after it.
+fn halves() -> (&'static [u8], &'static [u8]) {
+    STORED.split_at(STORED.len() - lies().len())
+}
+
+/// All cases of the stored list but the false ones.
 fn all_cases() -> Vec<Case> {
-    let mut list = STORED;
+    cases_of(halves().0)
+}
+
+/// The cases of a list.
+fn cases_of(mut list: &'static [u8]) -> Vec<Case> {
     let mut cases = Vec::new();
     while !list.is_empty() {
         cases.push(take_case(&mut list));
@@ -141,6 +150,15 @@ fn the_list_has_thousands_of_cases_and_is_not_too_long() {
 fn the_list_says_what_the_rust_gives() {
     for case in all_cases() {
         assert_eq!(push(case.registry, case.base, case.area), case.push);
+    }
+}
+
+#[test]
+fn the_false_cases_say_something_else() {
+    let lies = cases_of(halves().1);
+    assert_eq!(lies.len(), 2 + 9 * 19 + 2);
+    for case in lies {
+        assert_ne!(push(case.registry, case.base, case.area), case.push);
     }
 }
 

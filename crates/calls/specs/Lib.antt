@@ -7,3 +7,4 @@ pub mod WellNested
 pub mod SplitLaws
 pub mod WellNestedLaws
 pub mod NestKept
+pub mod RoomLaws

@@ -106,6 +106,12 @@ stands (p ∷ ps) area q us e =
       all = f .all ∙ ap (λ (l : List ℕ). first ++ l) (g .all) ∙ sym (append-assoc first (g .pre) (entry (g .type) (g .value) ++ g .post));
     }
 
+-- every entry is complete: type, length, and as many octets as the length says
+pub entry-complete : (area : List ℕ) (ps : List (List ℕ)) (q : List ℕ) (us : List (List ℕ)) → entries area ≡ ps ++ q ∷ us → (t : ℕ) × (v : List ℕ) × (q ≡ entry t v)
+entry-complete area ps q us found =
+    let s : Stands area ps q us = stands ps area q us found in
+    (s .type, s .value, s .itself)
+
 -- so does every area that differs in its value
 
 -- octets x, v, y, and others of the same length that differ only inside v
