@@ -1,17 +1,18 @@
 -- The calls clear, cut back and read, case by case: what each gives where which test holds.
-use mathlib.Core.Path.{_≡_, refl, sym, ap, _∙_}
-use mathlib.Core.Bool.{Bool, true, false, _&&_}
+use mathlib.Core.Path.{_≡_, refl, sym, ap, _∙_, subst}
+use mathlib.Core.Logic.{_⊎_, inl, inr}
+use mathlib.Core.Bool.{Bool, true, false, true≢false, _&&_}
 use mathlib.Core.List.{List, [], _∷_, _++_}
-use Prim.Native.Nat.{ℕ, zero, suc, _≤_, _<_, _+_, _*_, _-_}
+use Prim.Native.Nat.{ℕ, zero, suc, _≤_, _<_, _+_, _-_}
 use native.Mathlib.Nat.{zero-add}
 use native.Mathlib.Decide.{decLe}
 use native.Mathlib.Omega.{arith}
-use borrow.Author.Tests.{le-leb, lt-leb, lt-ltb, le-ltb, leb-true}
+use borrow.Author.Tests.{le-leb, lt-leb, lt-ltb, le-ltb}
 use lib.Dec.{leb}
 use lib.ListN.{length}
 use Rattle.outcome.specs.Call.{done, refusal, finished, numbersOf}
-use Rattle.calls.specs.Limits.{lastRegistry}
-use Rattle.tape.specs.Both.{both, and-true, and-assoc, and-yes, and-no}
+use Rattle.outcome.specs.AnswersLaws.{Fails, fails-leb, fails-and, fails-as}
+use Rattle.tape.specs.Both.{and-assoc, and-yes, and-no}
 use Rattle.tape.specs.Record.{words}
 use Rattle.tape.specs.Tape.{InOrder, used, headed, withUsed, recordAt, load}
 use Rattle.tape.specs.LoadLaws.{load-append}
@@ -83,26 +84,30 @@ end-none t mark left none =
     let count : left ≡ 0 = omega arith in
     rw count refl
 
--- it is judged on every record kept: where it holds, each record keeps it
-pub end-by-each : (n : ℕ) (t : List ℕ) (mark at : ℕ) → endBy mark (load t at n) ≡ true → (i : ℕ) → at ≤ i → i < at + n → recordAt t i .past .0 ≤ mark
-unfolding endBy load
-end-by-each zero t mark at kept i from below = absurd (omega arith)
-end-by-each (suc n) t mark at kept i from below =
-    let x = both (leb (recordAt t at .past .0) mark) (endBy mark (load t (suc at) n)) kept in
-    go (decLe i at) (leb-true _ _ (x .0)) (λ later. end-by-each n t mark (suc at) (x .1) i later (omega arith))
-  where
-    go : Dec (i ≤ at) → recordAt t at .past .0 ≤ mark → (suc at ≤ i → recordAt t i .past .0 ≤ mark) → recordAt t i .past .0 ≤ mark
-    go (yes first) here behind =
-        let same : i ≡ at = omega arith in
-        rw same here
-    go (no later) here behind = behind (omega arith)
+-- of n records from a position on, one has word 5 above the mark
+abbrev Above : ℕ → List ℕ → ℕ → ℕ → Type 0
+Above n t mark at = (i : ℕ) × (at ≤ i) × (i < at + n) × (mark < recordAt t i .past .0)
 
--- and it holds where each record keeps it
-pub each-end-by : (n : ℕ) (t : List ℕ) (mark at : ℕ) → ((i : ℕ) → at ≤ i → i < at + n → recordAt t i .past .0 ≤ mark) → endBy mark (load t at n) ≡ true
+fails-end-by : (n : ℕ) (t : List ℕ) (mark at : ℕ) → Fails (endBy mark (load t at n)) (Above n t mark at)
 unfolding endBy load
-each-end-by zero t mark at ends = refl
-each-end-by (suc n) t mark at ends =
-    and-true (le-leb (recordAt t at .past .0) mark (ends at (omega arith) (omega arith))) (each-end-by n t mark (suc at) (λ i from below. ends i (omega arith) (omega arith)))
+fails-end-by zero t mark at = (λ no′. absurd (true≢false no′), λ yes′ x. omega (arith, x .1, x .2))
+fails-end-by (suc n) t mark at =
+    fails-as to (λ x. back x (decLe (x .0) at))
+    (fails-and (leb (recordAt t at .past .0) mark) (endBy mark (load t (suc at) n)) (fails-leb (recordAt t at .past .0) mark) (fails-end-by n t mark (suc at)))
+  where
+    to : (mark < recordAt t at .past .0) ⊎ Above n t mark (suc at) → Above (suc n) t mark at
+    to (inl here) = (at, omega arith, omega arith, here)
+    to (inr x) = (x .0, omega (arith, x .1), omega (arith, x .2), x .3)
+
+    back : (x : Above (suc n) t mark at) → Dec (x .0 ≤ at) → (mark < recordAt t at .past .0) ⊎ Above n t mark (suc at)
+    back x (yes first) =
+        let same : x .0 ≡ at = omega (arith, x .1) in
+        inl (subst (λ (i : ℕ). mark < recordAt t i .past .0) same (x .3))
+    back x (no later) = inr (x .0, omega arith, omega (arith, x .2), x .3)
+
+-- it is judged on every record kept: it fails where one of them has word 5 above the mark, and only there
+pub fails-cut : (t : List ℕ) (mark : ℕ) → Fails (endBy mark (load t 0 mark)) ((i : ℕ) × (i < mark) × (mark < recordAt t i .past .0))
+fails-cut t mark = fails-as (λ x. (x .0, omega (arith, x .2), x .3)) (λ x. (x .0, omega arith, omega (arith, x .1), x .2)) (fails-end-by mark t mark 0)
 
 module _ (t : List ℕ) (mark : ℕ) where
   -- 4: the header is not in order
@@ -147,10 +152,6 @@ module _ (t : List ℕ) (at : ℕ) where
   pub read-0 : headed t ≡ true → at < used t → readable (recordAt t at) ≡ true → readCall t at ≡ record { outcome = done; «record» = recordAt t at }
   unfolding readCall
   read-0 good inside fine = rw (good, lt-ltb at (used t) inside, fine)
-
--- word 0 of a record that is read is below 393,216
-pub word-0-limit : 65536 * suc lastRegistry ≡ 393216
-word-0-limit = refl
 
 -- two results over the C boundary that meet read's contract are equal
 pub record-unique : {meant : Reading} {one other words′ words″ : List ℕ} → GivesRecord meant one words′ → GivesRecord meant other words″ → (one ≡ other) × (words′ ≡ words″)

@@ -12,7 +12,7 @@ use Rattle.calls.specs.Limits.{deepest}
 use Rattle.tape.specs.Tape.{used, headed, withUsed, recordAt, load}
 use Rattle.tape.specs.HeaderLaws.{in-order-headed, with-used-in-order, used-inside}
 use Rattle.calls.specs.Calls.{cleared, clearCall, endBy, cutBackCall}
-use Rattle.calls.specs.CallsLaws.{clear-0, cleared-in-order, used-cleared, cut-6, cut-7, cut-0, end-by-each}
+use Rattle.calls.specs.CallsLaws.{clear-0, cleared-in-order, used-cleared, fails-cut, cut-6, cut-7, cut-0}
 use Rattle.calls.specs.Nest.{trees, nestTest}
 use Rattle.calls.specs.NestLaws.{ends-container, trees-none, trees-cases, past-container, past-leaf}
 use Rattle.calls.specs.WellNested.{Split, WellNested}
@@ -60,12 +60,17 @@ cuts (suc n) t d at end mark bound inside ends yes′ =
     go (yes past) one = trees-none t d at mark past
     go (no more) one = one (omega arith)
 
+-- where 7 does not hold, each record before the mark ends by it
+kept-ends : (t : List ℕ) (mark : ℕ) → endBy mark (load t 0 mark) ≡ true → (i : ℕ) → i < mark → recordAt t i .past .0 ≤ mark
+kept-ends t mark kept i below =
+    let not : ¬ (mark < recordAt t i .past .0) = λ over. fails-cut t mark .1 kept (i, below, over) in
+    omega arith
+
 -- a tape cut back where the kept records end by the mark
 cut-nested : (t : List ℕ) (mark : ℕ) → WellNested t → mark ≤ used t → endBy mark (load t 0 mark) ≡ true → WellNested (withUsed mark t)
 cut-nested t mark x inside kept =
     let before : trees t deepest 0 (used t) ≡ true = split-trees t deepest 0 (used t) (omega arith) (x .records) in
-    let split : Split t deepest 0 mark =
-    trees-split t deepest 0 mark (cuts mark t deepest 0 (used t) mark (omega arith) inside (λ i from below. end-by-each mark t mark 0 kept i from (omega arith)) before) in
+    let split : Split t deepest 0 mark = trees-split t deepest 0 mark (cuts mark t deepest 0 (used t) mark (omega arith) inside (λ i from. kept-ends t mark kept i) before) in
     let count : used (withUsed mark t) ≡ mark = used-with-used t mark (x .header .long) in
     record {
       header = with-used-in-order t mark (x .header) (omega (arith, used-inside t (x .header)));

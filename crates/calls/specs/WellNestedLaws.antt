@@ -44,32 +44,33 @@ used-with-used t count long = getD-set-same t 0 count 0 (omega arith)
 
 -- laid behind trees
 
--- a header stays in order under records that are laid
-in-order-laid : (t u : List ℕ) (f : Forest) (at next : ℕ) → Laid f t u at next → InOrder t → InOrder u
-in-order-laid t u f at next laid x =
+-- a header stays in order under records that are laid inside the tape and counted
+pub in-order-laid : (t u : List ℕ) (f : Forest) (at next : ℕ) → Laid f t u at next → InOrder t → 4 + 6 * next ≤ length t → InOrder (withUsed next u)
+in-order-laid t u f at next laid x inside =
     let word : (k : ℕ) → k < 4 → getD u k 0 ≡ getD t k 0 = λ k small. laid-other k laid (inl (omega arith)) in
     let length′ : length u ≡ length t = laid-length laid in
-    record {
+    with-used-in-order u next
+    (record {
       long = omega (arith, x .long);
       offset = word 1 (omega arith) ∙ x .offset;
       width = word 2 (omega arith) ∙ x .width;
       last = word 3 (omega arith) ∙ x .last;
       fits = rw (word 0 (omega arith), length′) (x .fits);
-    }
+    })
+    (rw length′ inside)
 
 -- records of a forest no deeper than allowed, laid behind trees, leave trees
 pub nested-laid : (t u : List ℕ) (f : Forest) (next : ℕ) → WellNested t → depth f ≤ deepest → Formed f → Laid f t u (used t) next → 4 + 6 * next ≤ length t → WellNested (withUsed next u)
 nested-laid t u f next x shallow formed laid inside =
-    let length′ : length u ≡ length t = laid-length laid in
-    let header : InOrder u = in-order-laid t u f (used t) next laid (x .header) in
+    let long : 4 ≤ length u = rw (laid-length laid) (x .header .long) in
     let old : Forest = x .records .forest in
     let count : used t - 0 ≡ size old = size-held t 0 (used t - 0) old (x .records .held) in
     let before : load u 0 (used t) ≡ flat 0 old = laid-before 0 (used t) laid (omega arith) ∙ ap (load t 0) (omega arith) ∙ x .records .held in
     let behind : load u (used t) (size f) ≡ flat (used t) f = laid-load laid inside in
-    let total : used (withUsed next u) - 0 ≡ used t + size f = omega (arith, used-with-used u next (header .long), laid .place) in
+    let total : used (withUsed next u) - 0 ≡ used t + size f = omega (arith, used-with-used u next long, laid .place) in
     let place : used t ≡ 0 + size old = omega arith in
     record {
-      header = with-used-in-order u next header (rw length′ inside);
+      header = in-order-laid t u f (used t) next laid (x .header) inside;
       records =
           record {
             forest = old ⧺ f;

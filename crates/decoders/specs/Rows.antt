@@ -25,7 +25,7 @@ abbrev pub octetsAt : ℕ → ℕ → ℕ → ℕ → ℕ → ℕ → Forest
 octetsAt label shape at width registry base = leaf (content label shape registry (base + at) (base + at + width) 0) none
 
 -- a bit of octet 0
-abbrev pub flagAt : ℕ → ℕ → ℕ → List ℕ → ℕ → Forest
+abbrev flagAt : ℕ → ℕ → ℕ → List ℕ → ℕ → Forest
 flagAt label mask registry v base = leaf (content label 0 registry base (base + 1) (getD v 0 0 / mask % 2)) none
 
 abbrev pub oneNumber : ℕ → ℕ → ℕ → ℕ → ℕ → List ℕ → ℕ → Reading

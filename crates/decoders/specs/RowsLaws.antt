@@ -94,10 +94,3 @@ ranges-types kind v (inr e) = ap (λ (n : ℕ). usual 2 n v) e
 -- what is left of them after the types 32 to 36
 pub past-36 : (n : ℕ) → 32 ≤ n → (n ≡ 32 → ⊥) → (n ≡ 33 → ⊥) → (n ≡ 34 → ⊥) → (n ≡ 35 → ⊥) → (n ≡ 36 → ⊥) → 37 ≤ n
 past-36 n from not32 not33 not34 not35 not36 = omega arith
-
--- a type below another, or above it, is not it
-pub below : (n k : ℕ) → n < k → n ≡ k → ⊥
-below n k less same = omega arith
-
-pub above : (n k : ℕ) → k < n → n ≡ k → ⊥
-above n k more same = omega arith

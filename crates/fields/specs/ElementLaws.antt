@@ -1,11 +1,9 @@
 -- Elements of arrays, out of their parts.
 use mathlib.Core.Path.{_≡_}
-use mathlib.Core.Bool.{Bool, true, false, _||_, cond}
 use mathlib.Core.List.{List}
-use Prim.Native.Nat.{ℕ, suc, _+_, _%_, _^_, _≤_}
+use Prim.Native.Nat.{ℕ, _+_, _≤_}
 use native.Mathlib.Nat.{add-zero, add-assoc}
 use native.Mathlib.Omega.{arith}
-use lib.Dec.{leb, eqb}
 use lib.ListN.{length}
 use Rattle.octets.specs.BigEndian.{bigEndian}
 use Rattle.octets.specs.BigEndianLaws.{bigEndian-one}
@@ -14,10 +12,11 @@ use Rattle.tape.specs.Tape.{putAt}
 use Rattle.tape.specs.Forest.{none, leaf, size, _⧺_}
 use Rattle.tape.specs.Laid.{Laid}
 use Rattle.tape.specs.LaidLaws.{laid-then, laid-node}
+use Rattle.meaning.specs.Label
 use Rattle.meaning.specs.Tree.{content}
 use Rattle.meaning.specs.Field.{msds, ranges}
-use Rattle.meaning.specs.Sid.{sidTrees}
 use Rattle.meaning.specs.Array.{elementTrees}
+use Rattle.meaning.specs.Theorems.Bound.{size-sid-le}
 use Rattle.fields.specs.Shows.{sidWidth, sidNumber}
 use Rattle.fields.specs.ShowsLaws.{sid-shown}
 
@@ -45,19 +44,7 @@ module _ (registry base : ℕ) (p : List ℕ) {t u v w : List ℕ} {at mid next 
       (laid-then (rw (add-zero base) at size) (rw (sid-shown p 5 _ registry base (omega arith)) sid))
       put
 
--- a length of 3 or 4
-pub three-is : (n : ℕ) → n ≡ 3 → (eqb n 3 || eqb n 4) ≡ true
-three-is n e = rw e
-
-pub four-is : (n : ℕ) → n ≡ 4 → (eqb n 3 || eqb n 4) ≡ true
-four-is n e = rw e
-
 -- a range has at most 3 records
 pub range-size : (registry base : ℕ) (p : List ℕ) → size (elementTrees ranges registry p base) ≤ 3
-unfolding elementTrees _⧺_ sidTrees
-range-size registry base p = go (leb 9 (length p)) (leb 8 (length p))
-  where
-    go : (a b : Bool) → suc (suc (size (cond a (leaf (content 50 2 registry (base + 5) (base + 5 + 4) (bigEndian p 5 4)) none) (cond b (leaf (content 50 2 registry (base + 5) (base + 5 + 3) (bigEndian p 5 3 % 2 ^ 20)) none) none))) + 0) ≤ 3
-    go true b = omega arith
-    go false true = omega arith
-    go false false = omega arith
+unfolding elementTrees _⧺_
+range-size registry base p = omega (arith, size-sid-le Label.rangeSid registry p base 5)

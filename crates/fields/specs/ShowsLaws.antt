@@ -44,7 +44,7 @@ module _ (v : List ℕ) (at : ℕ) where
       go false = refl
 
   -- .. of that width
-  pub sid-ends : at + 3 ≤ length v → sidEnd v at ≡ at + sidWidth v at
+  sid-ends : at + 3 ≤ length v → sidEnd v at ≡ at + sidWidth v at
   unfolding sidEnd
   sid-ends there = rw (le-leb (at + 3) (length v) there) (go (leb (at + 4) (length v)))
     where

@@ -73,7 +73,7 @@ areaLines shows registry area base t =
     noRegistry registry ∷ tooLong area ∷ tooFar area base ∷ noTape t ∷ tooMany (size (shows registry area base)) t ∷ []
 
 -- the name of a type in the registry that was found
-abbrev pub nameBy : Found → ℕ → List ℕ
+abbrev nameBy : Found → ℕ → List ℕ
 nameBy Unknown t = []
 nameBy (Known registry) t = nameOf registry t
 

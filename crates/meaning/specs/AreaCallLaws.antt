@@ -86,10 +86,15 @@ number-low Binding = omega arith
 number-low Srv6Sid = omega arith
 number-low Unregistered = omega arith
 
--- 1: registry not 0 to 5
-pub call-1 : (shows : Walk) (registry : ℕ) (area : List ℕ) (base : ℕ) (t : List ℕ) → 6 ≤ registry → areaCall shows registry area base t ≡ refusal 1 t
-unfolding callIn
-call-1 shows registry area base t past = rw (registryOf-past registry past)
+module _ (shows : Walk) (n : ℕ) (area : List ℕ) (base : ℕ) (t : List ℕ) where
+  -- 1: a number that no registry has
+  pub call-unknown : registryOf n ≡ Unknown → areaCall shows n area base t ≡ refusal 1 t
+  unfolding callIn
+  call-unknown unknown = rw unknown
+
+  -- the number of a registry
+  pub call-known : {registry : Registry} → registryOf n ≡ Known registry → areaCall shows n area base t ≡ areaCall shows (numberOf registry) area base t
+  call-known {registry} known = rw (known, registryOf-number registry)
 
 module _ (shows : Walk) (registry : Registry) (area : List ℕ) (base : ℕ) (t : List ℕ) where
   -- a registry's number
@@ -118,16 +123,6 @@ module _ (shows : Walk) (registry : Registry) (area : List ℕ) (base : ℕ) (t 
         pub accepted : areaCall shows (numberOf registry) area base t ≡ fitted (covered area) (shows (numberOf registry) area base) t
         unfolding callIn
         accepted = known ∙ rw (le-leb (length area) longest short, le-leb (base + length area) furthest near, good)
-
-        -- 5: needed records exceed free room
-        pub call-5 : room t - used t < size (shows (numberOf registry) area base)
-            → areaCall shows (numberOf registry) area base t ≡ record { outcome = noRoom (size (shows (numberOf registry) area base)); lent = t }
-        call-5 less = accepted ∙ fitted-5 (covered area) (shows (numberOf registry) area base) t less
-
-        -- 0: done
-        pub call-0 : size (shows (numberOf registry) area base) ≤ room t - used t
-            → areaCall shows (numberOf registry) area base t ≡ shown (covered area) (shows (numberOf registry) area base) t
-        call-0 fits = accepted ∙ fitted-0 (covered area) (shows (numberOf registry) area base) t fits
 
 -- what holds of every refusal, of the refusal under 5, and of what is shown where no refusal holds, holds of the call
 module _ (P : After → Type 0) (shows : Walk) (area : List ℕ) (base : ℕ) (t : List ℕ)
@@ -178,15 +173,15 @@ module _ (shows : Walk) (area : List ℕ) (base : ℕ) (t : List ℕ) where
       go (no long) near b is fits = absurd (omega (arith, answer (call-2 shows registry area base t (omega arith))))
       go (yes short) (no far) b is fits = absurd (omega (arith, answer (call-3 shows registry area base t short (omega arith))))
       go (yes short) (yes near) false is fits = absurd (omega (arith, answer (call-4 shows registry area base t short near is)))
-      go (yes short) (yes near) true is (no less) = absurd (omega (arith, answer (call-5 shows registry area base t short near is (omega arith))))
+      go (yes short) (yes near) true is (no less) = absurd (omega (arith, answer (accepted shows registry area base t short near is ∙ fitted-5 (covered area) (shows (numberOf registry) area base) t (omega arith))))
       go (yes short) (yes near) true is (yes fits) =
-          record { known = number-low registry; short = short; near = near; good = is; fits = fits; is = call-0 shows registry area base t short near is fits }
+          record { known = number-low registry; short = short; near = near; good = is; fits = fits; is = accepted shows registry area base t short near is ∙ fitted-0 (covered area) (shows (numberOf registry) area base) t fits }
 
   pub call-done : (registry : ℕ) → areaCall shows registry area base t .outcome .answer ≡ 0 → Done shows registry area base t
   call-done registry zero′ = go (decLe 6 registry)
     where
       go : Dec (6 ≤ registry) → Done shows registry area base t
-      go (yes past) = absurd (omega (arith, sym zero′ ∙ ap (λ (a : After). a .outcome .answer) (call-1 shows registry area base t past)))
+      go (yes past) = absurd (omega (arith, sym zero′ ∙ ap (λ (a : After). a .outcome .answer) (call-unknown shows registry area base t (registryOf-past registry past))))
       go (no below) =
           let n = numbered registry (omega arith) in
           subst (λ (r : ℕ). Done shows r area base t) (n .1) (done-known (n .0) (ap (λ (r : ℕ). areaCall shows r area base t .outcome .answer) (n .1) ∙ zero′))

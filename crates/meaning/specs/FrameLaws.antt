@@ -1,6 +1,6 @@
 -- Laws of the framing.
-use mathlib.Core.Path.{_≡_, refl, sym}
-use mathlib.Core.Bool.{Bool, true, false, true≢false, _&&_, _||_, cond}
+use mathlib.Core.Path.{_≡_, refl}
+use mathlib.Core.Bool.{Bool, true, false, _||_, cond}
 use mathlib.Core.List.{List, [], _∷_, _++_}
 use Prim.Native.Nat.{ℕ, suc, _+_, _≤_, _<_}
 use native.Mathlib.Omega.{arith}
@@ -8,6 +8,7 @@ use borrow.Author.Tests.{leb-true, le-leb, lt-leb, eqb-true}
 use lib.Dec.{leb, eqb}
 use lib.ListN.{length, getD, length-append, length-drop, List·getD-append}
 use lib.Seq.{drop-append-add, drop-length}
+use Rattle.tape.specs.Both.{both}
 use Rattle.meaning.specs.Cut.{piecesAfter, pieces, total}
 use Rattle.meaning.specs.CutLaws.{total-++, joined, total-le, pieces-rejoined, pieces-after, pieces-piece, pieces-++}
 use Rattle.meaning.specs.Frame.{whole, entryLength, entries, covered, remainder, isRange, rangeLength}
@@ -46,7 +47,7 @@ module _ (xs : List ℕ) where
   unfolding entryLength
   entry-over few = rw (lt-leb (suc (suc (getD xs 1 0))) (length xs) (omega (arith, few)))
 
-pub entry-more : (xs ys : List ℕ) → 0 < entryLength xs → entryLength (xs ++ ys) ≡ entryLength xs
+entry-more : (xs ys : List ℕ) → 0 < entryLength xs → entryLength (xs ++ ys) ≡ entryLength xs
 unfolding entryLength
 entry-more xs ys h =
     let n : ℕ = suc (suc (getD xs 1 0)) in
@@ -58,7 +59,7 @@ entry-more xs ys h =
 abbrev pub entry : ℕ → List ℕ → List ℕ
 entry t v = t ∷ length v ∷ v
 
-pub entry-whole : (t : ℕ) (v : List ℕ) → entryLength (entry t v) ≡ length (entry t v)
+entry-whole : (t : ℕ) (v : List ℕ) → entryLength (entry t v) ≡ length (entry t v)
 unfolding entryLength
 entry-whole t v = rw (le-leb (length (entry t v)) (length (entry t v)) (omega arith))
 
@@ -83,11 +84,7 @@ range-eight xs some =
     let n : ℕ = getD xs 4 0 in
     let is : isRange xs ≡ true = passed (isRange xs) (whole (5 + n) xs) some in
     let there : 0 < whole (5 + n) xs = rw is at some in
-    rw (is, whole-is (5 + n) xs there) (omega (arith, three-four n (second (eqb (getD xs 3 0) 1) (eqb n 3 || eqb n 4) is)))
-  where
-    second : (a b : Bool) → (a && b) ≡ true → b ≡ true
-    second true b e = e
-    second false b e = absurd (true≢false (sym e))
+    rw (is, whole-is (5 + n) xs there) (omega (arith, three-four n (both (eqb (getD xs 3 0) 1) (eqb n 3 || eqb n 4) is .1)))
 
 -- covered, remainder
 
@@ -124,7 +121,7 @@ module _ (a b : List ℕ) (all : covered a ≡ length a) where
   unfolding entries covered
   entries-++ = pieces-++ entryLength entry-fits entry-more b a all
 
-  pub covered-++ : covered (a ++ b) ≡ length a + covered b
+  covered-++ : covered (a ++ b) ≡ length a + covered b
   unfolding covered
   covered-++ = rw (entries-++, total-++, all)
 

@@ -1,6 +1,7 @@
 -- Cutting, at a place of the octets: what is left there, as a loop over pieces meets it.
 use mathlib.Core.Path.{_≡_, refl, _∙_}
 use mathlib.Core.Bool.{Bool, true, false, _||_, _&&_, cond}
+use mathlib.Core.Logic.{_⊎_, inl, inr}
 use mathlib.Core.List.{List, _∷_}
 use Prim.Native.Nat.{ℕ, _+_, _-_, _≤_, _<_}
 use native.Mathlib.Nat.{add-assoc}
@@ -67,6 +68,10 @@ module _ (n : ℕ) (s : List ℕ) (i : ℕ) where
 
 -- rangeLength
 
+three-or-four : (n : ℕ) → (n ≡ 3) ⊎ (n ≡ 4) → (eqb n 3 || eqb n 4) ≡ true
+three-or-four n (inl three) = rw three
+three-or-four n (inr four) = rw four
+
 module _ (s : List ℕ) (i : ℕ) (inside : i ≤ length s) where
   pub range-few : length s < i + 5 → rangeLength (drop i s) ≡ 0
   unfolding rangeLength
@@ -89,10 +94,10 @@ module _ (s : List ℕ) (i : ℕ) (inside : i ≤ length s) where
       go false = refl
 
   -- sub-type 1, and a length of 3 or 4
-  module _ (one : getD s (i + 3) 0 ≡ 1) (either : (eqb (getD s (i + 4) 0) 3 || eqb (getD s (i + 4) 0) 4) ≡ true) where
+  module _ (one : getD s (i + 3) 0 ≡ 1) (either : (getD s (i + 4) 0 ≡ 3) ⊎ (getD s (i + 4) 0 ≡ 4)) where
     range-is : rangeLength (drop i s) ≡ whole (5 + getD s (i + 4) 0) (drop i s)
     unfolding rangeLength
-    range-is = rw (getD-drop i s 3 0, getD-drop i s 4 0, one, either)
+    range-is = rw (getD-drop i s 3 0, getD-drop i s 4 0, one, three-or-four (getD s (i + 4) 0) either)
 
     pub range-here : i + (5 + getD s (i + 4) 0) ≤ length s → rangeLength (drop i s) ≡ 5 + getD s (i + 4) 0
     range-here enough = range-is ∙ whole-here (5 + getD s (i + 4) 0) s i enough

@@ -26,7 +26,7 @@ pub joined : (s : List ℕ) (at v w : ℕ) {a b : ℕ} → a ≡ bigEndian s at 
 joined s at v w p q = rw (p, q) (sym (bigEndian-join s at v w))
 
 -- a number in a part of the octets stands in the octets themselves
-pub bigEndian-part : (s : List ℕ) (from n at width : ℕ) → at + width ≤ n → bigEndian (take n (drop from s)) at width ≡ bigEndian s (from + at) width
+bigEndian-part : (s : List ℕ) (from n at width : ℕ) → at + width ≤ n → bigEndian (take n (drop from s)) at width ≡ bigEndian s (from + at) width
 unfolding bigEndian
 bigEndian-part s from n at zero h = refl
 bigEndian-part s from n at (suc w) h =

@@ -31,7 +31,7 @@ unfolding kept
 kept-units b x = omega (arith, div-add-mod' x (2 ^ (8 - b)))
 
 -- a bit that is kept, counted from the least significant
-pub kept-high : (b x j : ℕ) → 8 - b ≤ j → kept b x / 2 ^ j ≡ x / 2 ^ j
+kept-high : (b x j : ℕ) → 8 - b ≤ j → kept b x / 2 ^ j ≡ x / 2 ^ j
 kept-high b x j h =
     let m = 8 - b in
     let e : j ≡ m + (j - m) = omega arith in
@@ -43,7 +43,7 @@ even-above q d j =
     rw (pow-add 2 (suc d) j, ← mul-assoc q (2 ^ suc d) (2 ^ j), shl-shr (q * 2 ^ suc d) j, pow-suc 2 d, ← mul-assoc q (2 ^ d) 2) (mul-mod-left (q * 2 ^ d) 2)
 
 -- a bit that is cleared
-pub kept-low : (b x j : ℕ) → j < 8 - b → kept b x / 2 ^ j % 2 ≡ 0
+kept-low : (b x j : ℕ) → j < 8 - b → kept b x / 2 ^ j % 2 ≡ 0
 kept-low b x j h =
     let d = 8 - b - suc j in
     let e : 8 - b ≡ suc d + j = omega arith in
@@ -58,7 +58,7 @@ masked-length b [] = refl
 masked-length b (x ∷ xs) = ap suc (masked-length (b - 8) xs)
 
 -- octet i of the result, 0 past the end on both sides
-pub masked-at : (b : ℕ) (xs : List ℕ) (i : ℕ) → getD (masked b xs) i 0 ≡ kept (b - i * 8) (getD xs i 0)
+masked-at : (b : ℕ) (xs : List ℕ) (i : ℕ) → getD (masked b xs) i 0 ≡ kept (b - i * 8) (getD xs i 0)
 unfolding masked kept
 masked-at b [] i = rw (zero-mod, zero-sub)
 masked-at b (x ∷ xs) zero = rw sub-zero

@@ -26,14 +26,14 @@ rises (l ∷ ls) k n up (inr later) = go (rises ls (l .number) n (up .1) (later 
     go (inr above) = inr (omega (arith, up .0))
 
 -- 0 where no line holds
-pub done-when : (ls : List Line) (n : ℕ) → Answer ls n → None ls → n ≡ 0
+done-when : (ls : List Line) (n : ℕ) → Answer ls n → None ls → n ≡ 0
 unfolding Answer None
 done-when [] n is none = is
 done-when (l ∷ ls) n (inl here) none = absurd (none .0 (here .0))
 done-when (l ∷ ls) n (inr later) none = done-when ls n (later .1) (none .1)
 
 -- and only there
-pub done-only-then : (ls : List Line) (k n : ℕ) → Rising k ls → Answer ls n → n ≡ 0 → None ls
+done-only-then : (ls : List Line) (k n : ℕ) → Rising k ls → Answer ls n → n ≡ 0 → None ls
 unfolding Rising Answer None
 done-only-then [] k n up is zero = tt
 done-only-then (l ∷ ls) k n up (inl here) zero = absurd (omega (arith, up .0, here .1))
@@ -41,7 +41,7 @@ done-only-then (l ∷ ls) k n up (inr later) zero = (later .0, done-only-then ls
 
 module _ (l : Line) (later : List Line) where
   -- a line's number where it holds and no line before it
-  pub comes-when : (earlier : List Line) (n : ℕ) → Answer (earlier ++ l ∷ later) n → None earlier → l .when → n ≡ l .number
+  comes-when : (earlier : List Line) (n : ℕ) → Answer (earlier ++ l ∷ later) n → None earlier → l .when → n ≡ l .number
   unfolding Answer None
   comes-when [] n (inl here) none holds = here .1
   comes-when [] n (inr past) none holds = absurd (past .0 holds)
@@ -55,7 +55,7 @@ module _ (l : Line) (later : List Line) where
   higher (e ∷ es) k up = omega (arith, up .0, higher es (e .number) (up .1))
 
   -- and only there
-  pub comes-only-then : (earlier : List Line) (k n : ℕ) → Rising k (earlier ++ l ∷ later) → Answer (earlier ++ l ∷ later) n → n ≡ l .number → None earlier × l .when
+  comes-only-then : (earlier : List Line) (k n : ℕ) → Rising k (earlier ++ l ∷ later) → Answer (earlier ++ l ∷ later) n → n ≡ l .number → None earlier × l .when
   unfolding Rising Answer None
   comes-only-then [] k n up (inl here) is = (tt, here .0)
   comes-only-then [] k n up (inr past) is = absurd (above (rises later (l .number) n (up .1) (past .1)))

@@ -18,12 +18,12 @@ use Rattle.registry.specs.declared.Found.the-variants.{Known, Unknown}
 -- named
 
 -- a name that is longer than what was lent
-pub named-longer : (name lent : List ℕ) → length lent < length name → named name lent ≡ refusal 9 lent
+named-longer : (name lent : List ℕ) → length lent < length name → named name lent ≡ refusal 9 lent
 unfolding named
 named-longer name lent longer = rw (lt-leb (length name) (length lent) longer)
 
 -- a name that fits
-pub named-fits : (name lent : List ℕ) → length name ≤ length lent → named name lent ≡ done name lent
+named-fits : (name lent : List ℕ) → length name ≤ length lent → named name lent ≡ done name lent
 unfolding named
 named-fits name lent fits = rw (le-leb (length name) (length lent) fits)
 

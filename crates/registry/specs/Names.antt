@@ -13,7 +13,7 @@ abbrev pub Name : Type 0
 Name = ℕ × String
 
 -- IANA, IS-IS Sub-TLVs for TLVs Advertising Neighbor Information
-abbrev pub neighbor : List Name
+abbrev neighbor : List Name
 neighbor =
     (3, "Administrative group (color)") ∷
     (4, "Link Local/Remote Identifiers") ∷
@@ -60,7 +60,7 @@ neighbor =
     []
 
 -- IANA, IS-IS Sub-TLVs for TLVs Advertising Prefix Reachability
-abbrev pub prefix : List Name
+abbrev prefix : List Name
 prefix =
     (1, "32-bit Administrative Tag") ∷
     (2, "64-bit Administrative Tag") ∷
@@ -74,7 +74,7 @@ prefix =
     []
 
 -- IANA, IS-IS Sub-TLVs for IS-IS Router CAPABILITY TLV
-abbrev pub routerCapability : List Name
+abbrev routerCapability : List Name
 routerCapability =
     (1, "TE Node Capability Descriptor") ∷
     (2, "Segment Routing Capability") ∷
@@ -110,14 +110,14 @@ routerCapability =
     []
 
 -- IANA, IS-IS Sub-TLVs for Segment Identifier/Label Binding TLVs
-abbrev pub binding : List Name
+abbrev binding : List Name
 binding =
     (1, "SID/Label") ∷
     (3, "Prefix Segment Identifier") ∷
     []
 
 -- IANA, IS-IS Sub-Sub-TLVs for SRv6 SID Sub-TLVs
-abbrev pub srv6Sid : List Name
+abbrev srv6Sid : List Name
 srv6Sid =
     (1, "SRv6 SID Structure") ∷
     []

@@ -1,4 +1,4 @@
--- Room for a call, and its cases.
+-- Room for a call, and what it leaves.
 use mathlib.Core.Path.{_≡_, _∙_}
 use mathlib.Core.List.{List}
 use Prim.Native.Nat.{ℕ, _+_, _*_, _-_, _/_, _^_, _≤_, _<_}
@@ -8,15 +8,10 @@ use Rattle.meaning.specs.Table.{usual}
 use Rattle.meaning.specs.Area.{walked, pushed}
 use Rattle.meaning.specs.Theorems.Bound.{needed-walked, needed-pushed}
 use Rattle.meaning.specs.Theorems.PlanLaws.{usual-sparing}
-use Rattle.outcome.specs.Call.{Gives, refusal}
-use Rattle.registry.specs.Registry.{numberOf, registryOf}
-use Rattle.registry.specs.RegistryLaws.{registryOf-number}
-use Rattle.registry.specs.declared.Found.the-variants.{Known, Unknown}
-use Rattle.registry.specs.declared.Registry.{Registry}
+use Rattle.outcome.specs.Call.{Gives}
 use Rattle.tape.specs.Tape.{used, withUsed}
 use Rattle.tape.specs.Forest.{Forest, size}
-use Rattle.meaning.specs.Value.{Walk as Shows′}
-use Rattle.meaning.specs.AreaCall.{appended, shown, callIn, areaCall}
+use Rattle.meaning.specs.AreaCall.{appended, shown}
 use Rattle.fields.specs.Shows.{Shows}
 use Rattle.fields.specs.declared.Shown.{Shown}
 use Rattle.walk.specs.Rest.{Room}
@@ -38,18 +33,6 @@ module _ (k : ℕ) (area : List ℕ) (base at : ℕ) (short : length area ≤ 65
 pub most : (call : Call) (k : ℕ) (area : List ℕ) (base : ℕ) → size (shownBy call k area base) ≤ 1 + 7 * length area / 3
 most Walk = needed-walked usual usual-sparing
 most Push = needed-pushed usual usual-sparing
-
--- registries
-
-module _ (shows : Shows′) (n : ℕ) (area : List ℕ) (base : ℕ) (t : List ℕ) where
-  -- a number that no registry has
-  pub call-unknown : registryOf n ≡ Unknown → areaCall shows n area base t ≡ refusal 1 t
-  unfolding callIn
-  call-unknown unknown = rw unknown
-
-  -- the number of a registry
-  pub call-known : {registry : Registry} → registryOf n ≡ Known registry → areaCall shows n area base t ≡ areaCall shows (numberOf registry) area base t
-  call-known {registry} known = rw (known, registryOf-number registry)
 
 -- what was laid behind the used records, and is counted now
 pub appended-made : (octets : ℕ) (trees : Forest) (t : List ℕ) {u w : List ℕ} {at n : ℕ} {s : Shown} → at ≡ used t → n ≡ s .next .0 - at → Shows octets trees t u at s → w ≡ withUsed (s .next .0) u

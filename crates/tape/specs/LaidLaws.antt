@@ -1,6 +1,6 @@
 -- The laws by which contracts of functions that write records compose.
 use mathlib.Core.Path.{_≡_, refl, sym, ap, _∙_}
-use mathlib.Core.List.{List, append-nil}
+use mathlib.Core.List.{List, _∷_, append-nil}
 use mathlib.Core.Logic.{_⊎_, inl, inr, ⊎-elim}
 use Prim.Native.Nat.{ℕ, suc, _+_, _*_, _≤_, _<_}
 use native.Mathlib.Nat.{add-assoc}
@@ -14,6 +14,7 @@ use Rattle.tape.specs.Forest.{Forest, none, leaf, node, size, _⧺_, fla
 use Rattle.tape.specs.ForestLaws.{size-⧺, length-flat, flat-⧺}
 use Rattle.tape.specs.Laid.{Laid}
 use Rattle.tape.specs.declared.Content.{Content}
+use Rattle.tape.specs.declared.Record.{Record}
 use lib.ListN.{length, getD}
 
 -- nothing
@@ -40,28 +41,25 @@ laid-then {f} {g} {t} {u} {v} {at} {mid} {next} a b =
           ∙ ap (store t at) (sym (flat-⧺ f g at));
     }
 
+-- what stands behind a record, and then the record in front of it
+front : (g : Forest) (r : Record) (at : ℕ) {k : Forest} {t u v : List ℕ} {next : ℕ} → size g ≡ suc (size k) → flat at g ≡ r ∷ flat (suc at) k
+    → Laid k t u (at + 1) next → v ≡ putAt u at r → Laid g t v at next
+front g r at {k} {t} one-more is a e =
+    record {
+      place = omega (arith, one-more, a .place);
+      words = e ∙ ap (λ (l : List ℕ). putAt l at r) (a .words) ∙ container-last t at r (flat (at + 1) k) ∙ rw (add-one at, is) refl;
+    }
+
 -- the children, and then their container in front of them
 pub laid-node : (m : Content) {k : Forest} {t u v : List ℕ} {at next : ℕ}
     → Laid k t u (at + 1) next → v ≡ putAt u at (containerRecord m (at + 1) next) → Laid (node m k none) t v at next
 unfolding flat
-laid-node m {k} {t} {u} {v} {at} {next} a e =
-    record {
-      place = omega (arith, a .place);
-      words =
-          e
-          ∙ ap (λ (l : List ℕ). putAt l at (containerRecord m (at + 1) next)) (a .words)
-          ∙ container-last t at (containerRecord m (at + 1) next) (flat (at + 1) k)
-          ∙ rw (a .place, add-one at, append-nil (flat (suc at) k)) refl;
-    }
+laid-node m {k} {at = at} {next} a = front (node m k none) (containerRecord m (at + 1) next) at (omega arith) (rw (a .place, add-one at, append-nil (flat (suc at) k)) refl) a
 
 -- what stands behind a leaf, and then the leaf in front of it
-pub laid-front : (m : Content) {k : Forest} {t u v : List ℕ} {at next : ℕ} → Laid k t u (at + 1) next → v ≡ putAt u at (leafRecord m) → Laid (leaf m k) t v at next
+laid-front : (m : Content) {k : Forest} {t u v : List ℕ} {at next : ℕ} → Laid k t u (at + 1) next → v ≡ putAt u at (leafRecord m) → Laid (leaf m k) t v at next
 unfolding flat
-laid-front m {k} {t} {u} {v} {at} {next} a e =
-    record {
-      place = omega (arith, a .place);
-      words = e ∙ ap (λ (l : List ℕ). putAt l at (leafRecord m)) (a .words) ∙ container-last t at (leafRecord m) (flat (at + 1) k) ∙ rw (add-one at) refl;
-    }
+laid-front m {k} {at = at} = front (leaf m k) (leafRecord m) at refl refl
 
 -- what stands behind two leaves, and then the leaves and the container of all these in front of it
 pub laid-container-of-two : (m a b : Content) {k : Forest} {t u v : List ℕ} {at next : ℕ} → Laid k t u (at + 3) next

@@ -45,7 +45,7 @@ record-words r s same =
     }
 
 -- what was put is there
-pub record-put : (t : List ℕ) (at : ℕ) (r : Record) → 4 + 6 * at + 6 ≤ length t → recordAt (putAt t at r) at ≡ r
+record-put : (t : List ℕ) (at : ℕ) (r : Record) → 4 + 6 * at + 6 ≤ length t → recordAt (putAt t at r) at ≡ r
 unfolding putAt
 record-put t at r inside =
     let u : List ℕ = sets t (4 + 6 * at) (words r) in
@@ -56,7 +56,7 @@ pub record-same : (t u : List ℕ) (at : ℕ) → ((k : ℕ) → k < 6 → getD 
 record-same t u at same = record-words (recordAt t at) (recordAt u at) (λ k below. words-at t at k below ∙ same k below ∙ sym (words-at u at k below))
 
 -- a record outside those that were stored
-pub record-store : (rs : List Record) (t : List ℕ) (at i : ℕ) → (i < at) ⊎ (at + length rs ≤ i) → recordAt (store t at rs) i ≡ recordAt t i
+record-store : (rs : List Record) (t : List ℕ) (at i : ℕ) → (i < at) ⊎ (at + length rs ≤ i) → recordAt (store t at rs) i ≡ recordAt t i
 record-store rs t at i (inl before) = record-same (store t at rs) t i (λ k below. getD-store rs t at (4 + 6 * i + k) (inl (omega arith)))
 record-store rs t at i (inr after) = record-same (store t at rs) t i (λ k below. getD-store rs t at (4 + 6 * i + k) (inr (omega arith)))
 

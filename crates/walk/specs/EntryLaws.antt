@@ -34,13 +34,13 @@ module _ (k : ℕ) (e : List ℕ) (base : ℕ) where
       (rw same at put)
 
   -- the room that its decoder has
-  pub entry-room : {at third : ℕ} → 2 ≤ length e → Room (entryTrees usual (walked usual) k e base) (length e) base at → third ≡ at + 3
-      → Room (reading k (getD e 0 0) (drop 2 e) (base + 2) .found) (length (drop 2 e)) (base + 2) third
+  pub entry-room : {at : ℕ} → 2 ≤ length e → Room (entryTrees usual (walked usual) k e base) (length e) base at
+      → Room (reading k (getD e 0 0) (drop 2 e) (base + 2) .found) (length (drop 2 e)) (base + 2) (at + 3)
   unfolding entryTrees _⧺_
-  entry-room two room is =
+  entry-room two room =
       let fs = usual k (getD e 0 0) (drop 2 e) in
       let x = reading k (getD e 0 0) (drop 2 e) (base + 2) in
       record {
         octet = omega (arith, room .octet, length-drop 2 e);
-        position = omega (arith, is, room .position, ap size (value-is k (drop 2 e) (base + 2) fs), size-⧺ (x .found) (restOf k (drop 2 e) (base + 2) (x .taken)));
+        position = omega (arith, room .position, ap size (value-is k (drop 2 e) (base + 2) fs), size-⧺ (x .found) (restOf k (drop 2 e) (base + 2) (x .taken)));
       }

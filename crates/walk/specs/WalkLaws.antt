@@ -1,5 +1,5 @@
 -- A walk and a push, out of their parts.
-use mathlib.Core.Path.{_≡_, refl, sym, ap, _∙_}
+use mathlib.Core.Path.{_≡_, sym, ap, _∙_}
 use mathlib.Core.List.{List, [], _∷_}
 use Prim.Native.Nat.{ℕ, _+_, _≤_, _<_}
 use native.Mathlib.Nat.{add-zero}
@@ -8,7 +8,7 @@ use lib.ListN.{length, take, drop, length-drop}
 use lib.Seq.{length-take-le}
 use Rattle.tape.specs.Record.{containerRecord}
 use Rattle.tape.specs.Tape.{putAt}
-use Rattle.tape.specs.Forest.{Forest, size, _⧺_}
+use Rattle.tape.specs.Forest.{Forest, size}
 use Rattle.tape.specs.ForestLaws.{size-⧺}
 use Rattle.tape.specs.Laid.{Laid}
 use Rattle.tape.specs.LaidLaws.{laid-none, laid-then}
@@ -23,6 +23,7 @@ use Rattle.meaning.specs.Array.{arrayOf}
 use Rattle.meaning.specs.Table.{usual}
 use Rattle.meaning.specs.Value.{pushBy}
 use Rattle.meaning.specs.Area.{entryTrees, walkTrees, walked, pushed}
+use Rattle.meaning.specs.AreaLaws.{walk-shows}
 use Rattle.meaning.specs.Theorems.TheCalls.{walk-again}
 use Rattle.fields.specs.Shows.{Shows, arrayBy}
 use Rattle.fields.specs.Cutting.{CutOff, cutting-end}
@@ -46,12 +47,8 @@ module _ (k : ℕ) (area : List ℕ) (base : ℕ) where
 
   -- otherwise the array of its entries
   walk-some : 0 < length area → walked usual k area base ≡ arrayBy 4 k each-entry base (pieces entryLength area)
-  unfolding walkTrees arrayOf entries
-  walk-some some = walk-again k area base ∙ go area some
-    where
-      go : (a : List ℕ) → 0 < length a → walkTrees usual (walked usual) k a base ≡ arrayBy 4 k (entryTrees usual (walked usual) k) base (pieces entryLength a)
-      go [] some = absurd (omega arith)
-      go (x ∷ xs) some = refl
+  unfolding arrayOf entries
+  walk-some some = walk-again k area base ∙ walk-shows usual (walked usual) k area base (λ empty. omega (arith, ap length empty))
 
   -- entries are laid behind position at; octets are left, of which the first stands at place
   module _ {t u octets : List ℕ} {at place next : ℕ} (c : CutOff entryLength each-entry base area t u (at + 1) octets place next) where

@@ -11,7 +11,7 @@ use Rattle.meaning.specs.Table.{table}
 use Rattle.meaning.specs.AreaCall.{walkCall, pushCall}
 
 -- an empty tape with room for n records
-abbrev pub emptyTape : ℕ → List ℕ
+abbrev emptyTape : ℕ → List ℕ
 emptyTape n = 0 ∷ 4 ∷ 6 ∷ 0 ∷ replicate (6 * n) 0
 
 -- a record as the dump program prints it, after its position: label, shape, registry, words 1 to 5
@@ -19,7 +19,7 @@ pub data Line : Type 0 where
   line : ℕ → ℕ → ℕ → ℕ → ℕ → ℕ → ℕ → ℕ → Line
 
 -- the words of records
-abbrev pub wordsOf : List Line → List ℕ
+abbrev wordsOf : List Line → List ℕ
 wordsOf [] = []
 wordsOf (line label shape registry start end n first past ∷ lines) =
     (label + 256 * shape + 65536 * registry) ∷ start ∷ end ∷ n ∷ first ∷ past ∷ wordsOf lines
@@ -42,7 +42,7 @@ abbrev pub push : ℕ → List ℕ → ℕ → List Line → Case
 push = done 100
 
 -- the four numbers of a call, and every word of the tape afterwards
-abbrev pub all : After → List ℕ
+abbrev all : After → List ℕ
 all after = numbersOf (after .outcome) ++ after .lent
 
 -- what the definitions give
@@ -54,7 +54,7 @@ given (onto tape registry area answer octets written needed after) = all (pushCa
 given (mask bits before after) = masked bits before
 
 -- done, with just these records on the tape
-abbrev pub doneWith : ℕ → List Line → List ℕ
+abbrev doneWith : ℕ → List Line → List ℕ
 doneWith octets lines = 0 ∷ octets ∷ length lines ∷ length lines ∷ length lines ∷ 4 ∷ 6 ∷ 0 ∷ wordsOf lines
 
 -- what the example says
@@ -66,17 +66,17 @@ wanted (onto tape registry area answer octets written needed after) = answer ∷
 wanted (mask bits before after) = after
 
 -- a number in front of others, where a test holds
-abbrev pub also : Bool → ℕ → List ℕ → List ℕ
+abbrev also : Bool → ℕ → List ℕ → List ℕ
 also true n ns = n ∷ ns
 also false n ns = ns
 
 -- the least lengths of the rows of a registry and type
-abbrev pub leasts : List Row → ℕ → ℕ → List ℕ
+abbrev leasts : List Row → ℕ → ℕ → List ℕ
 leasts [] registry t = []
 leasts (row registry′ t′ least fields ∷ rows) registry t = also (eqb registry registry′ && eqb t t′) least (leasts rows registry t)
 
 -- a type and the least lengths of its rows in front of others, where it has a row
-abbrev pub typed : ℕ → List ℕ → List (List ℕ) → List (List ℕ)
+abbrev typed : ℕ → List ℕ → List (List ℕ) → List (List ℕ)
 typed t [] others = others
 typed t (least ∷ more) others = (t ∷ least ∷ more) ∷ others
 

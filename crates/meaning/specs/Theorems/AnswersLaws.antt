@@ -1,30 +1,30 @@
 -- Every call answers by the table's lines: each answer comes when its line says so, and only then, and a refusal changes nothing.
 use mathlib.Core.Path.{_≡_, refl, sym, ap, _∙_, subst}
 use mathlib.Core.Logic.{_⊎_, inl, inr}
-use mathlib.Core.Bool.{Bool, true, false, true≢false, _&&_, cond}
-use mathlib.Core.List.{List, [], _∷_}
-use Prim.Native.Nat.{ℕ, zero, suc, _+_, _-_, _≤_, _<_}
+use mathlib.Core.Bool.{Bool, true, false, cond}
+use mathlib.Core.List.{List, []}
+use Prim.Native.Nat.{ℕ, _+_, _-_, _≤_, _<_}
 use native.Mathlib.Decide.{decLe}
 use native.Mathlib.Omega.{arith}
 use lib.Dec.{leb, ltb, eqb}
 use lib.ListN.{length, getD}
 use Rattle.outcome.specs.Call.{Gives, finished}
 use Rattle.outcome.specs.Call.{done as nothing}
-use Rattle.outcome.specs.Answers.{Line, Rising, Answered}
-use Rattle.outcome.specs.AnswersLaws.{Fails, fails-leb, fails-ltb, fails-eqb, fails-and, fails-as, answered-done, answered-past, answered-refused, answered-check, answered-room, answered-run}
+use Rattle.outcome.specs.Answers.{Rising, Answered}
+use Rattle.outcome.specs.AnswersLaws.{Fails, fails-leb, fails-ltb, fails-eqb, fails-and, answered-done, answered-past, answered-refused, answered-check, answered-room, answered-run}
 use Rattle.outcome.specs.declared.Outcome.{Outcome}
 use Rattle.registry.specs.Registry.{numberOf, registryOf}
 use Rattle.registry.specs.RegistryLaws.{registryOf-number, registryOf-past, numbered}
 use Rattle.registry.specs.Names.{nameOf}
 use Rattle.registry.specs.NameCall.{done, named, nameIn, nameCall}
 use Rattle.registry.specs.declared.Registry.{Registry}
-use Rattle.registry.specs.declared.Found.{Found}
 use Rattle.registry.specs.declared.Found.the-variants.{Known, Unknown}
 use Rattle.tape.specs.Record.{labelOf, shapeOf, zeros}
 use Rattle.tape.specs.Tape.{used, room, headed, withUsed, recordAt, load}
 use Rattle.tape.specs.Forest.{Forest, size}
 use Rattle.tape.specs.declared.Record.{Record}
 use Rattle.calls.specs.Calls.{cleared, clearCall, endBy, cutBackCall, readable, noRecord, readCall}
+use Rattle.calls.specs.CallsLaws.{fails-cut}
 use Rattle.calls.specs.declared.Reading.{Reading}
 use Rattle.meaning.specs.Frame.{covered}
 use Rattle.meaning.specs.Value.{Walk}
@@ -50,27 +50,6 @@ fails-readable r =
     (fails-and (leb (shapeOf r) 8) _ (fails-leb (shapeOf r) 8)
     (fails-and (ltb (r .tag) 393216) _ (fails-ltb (r .tag) 393216) (fails-leb (r .start .0) (r .end .0))))
 
--- 7, of n records from a position on
-abbrev Above : ℕ → List ℕ → ℕ → ℕ → Type 0
-Above n t mark at = (i : ℕ) × (at ≤ i) × (i < at + n) × (mark < recordAt t i .past .0)
-
-fails-end-by : (n : ℕ) (t : List ℕ) (mark at : ℕ) → Fails (endBy mark (load t at n)) (Above n t mark at)
-unfolding endBy load
-fails-end-by zero t mark at = (λ no′. absurd (true≢false no′), λ yes′ x. omega (arith, x .1, x .2))
-fails-end-by (suc n) t mark at =
-    fails-as to (λ x. back x (decLe (x .0) at))
-    (fails-and (leb (recordAt t at .past .0) mark) (endBy mark (load t (suc at) n)) (fails-leb (recordAt t at .past .0) mark) (fails-end-by n t mark (suc at)))
-  where
-    to : (mark < recordAt t at .past .0) ⊎ Above n t mark (suc at) → Above (suc n) t mark at
-    to (inl here) = (at, omega arith, omega arith, here)
-    to (inr x) = (x .0, omega (arith, x .1), omega (arith, x .2), x .3)
-
-    back : (x : Above (suc n) t mark at) → Dec (x .0 ≤ at) → (mark < recordAt t at .past .0) ⊎ Above n t mark (suc at)
-    back x (yes first) =
-        let same : x .0 ≡ at = omega (arith, x .1) in
-        inl (subst (λ (i : ℕ). mark < recordAt t i .past .0) same (x .3))
-    back x (no later) = inr (x .0, omega arith, omega (arith, x .2), x .3)
-
 -- clear
 
 module _ (t : List ℕ) where
@@ -88,15 +67,12 @@ module _ (t : List ℕ) where
 -- cut back
 
 module _ (t : List ℕ) (mark : ℕ) where
-  fails-cut : Fails (endBy mark (load t 0 mark)) (cutsThrough mark t .when)
-  fails-cut = fails-as (λ x. (x .0, omega (arith, x .2), x .3)) (λ x. (x .0, omega arith, omega (arith, x .1), x .2)) (fails-end-by mark t mark 0)
-
   cut-back-lines : Answered (cutBackLines t mark) t (cutBackCall t mark)
   unfolding cutBackCall
   cut-back-lines =
       answered-check (noTape t) _ (headed t) t _ (fails-headed t)
       (answered-check (markPast mark t) _ (leb mark (used t)) t _ (fails-leb mark (used t))
-      (answered-check (cutsThrough mark t) [] (endBy mark (load t 0 mark)) t (finished (withUsed mark t)) fails-cut (answered-done t (finished (withUsed mark t)) refl)))
+      (answered-check (cutsThrough mark t) [] (endBy mark (load t 0 mark)) t (finished (withUsed mark t)) (fails-cut t mark) (answered-done t (finished (withUsed mark t)) refl)))
 
   pub cut-back-answered : (o : Outcome) (x : List ℕ) → Gives (cutBackCall t mark) o x → Answered (cutBackLines t mark) t (record { outcome = o; lent = x })
   cut-back-answered o x ran = answered-run (cutBackLines t mark) t o x ran cut-back-lines

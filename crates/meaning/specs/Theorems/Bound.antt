@@ -18,8 +18,8 @@ use Rattle.meaning.specs.Label
 use Rattle.meaning.specs.Label.{Label}
 use Rattle.meaning.specs.Cut.{Measure, pieces, total, each}
 use Rattle.meaning.specs.CutLaws.{pieces-ind, total-le}
-use Rattle.meaning.specs.Frame.{whole, entryLength, entries, covered, remainder, isRange, rangeLength}
-use Rattle.meaning.specs.FrameLaws.{passed, whole-fits, whole-is, entry-fits, range-fits, covered-le, length-remainder}
+use Rattle.meaning.specs.Frame.{entryLength, entries, covered, remainder, rangeLength}
+use Rattle.meaning.specs.FrameLaws.{whole-fits, whole-is, entry-fits, range-fits, range-eight, covered-le, length-remainder}
 use Rattle.meaning.specs.Field.{Span, from, first, Element, numbers, msds, ranges, Field, part, flag, sid, array, tail, push, Plan}
 use Rattle.meaning.specs.Tree.{raw}
 use Rattle.meaning.specs.Sid.{sidTrees, sidEnd}
@@ -47,7 +47,7 @@ unfolding raw
 size-raw-le registry at [] = omega arith
 size-raw-le registry at (x ∷ xs) = omega arith
 
-size-sid-le : (label : Label) (registry : ℕ) (v : List ℕ) (base at : ℕ) → size (sidTrees label registry v base at) ≤ 1
+pub size-sid-le : (label : Label) (registry : ℕ) (v : List ℕ) (base at : ℕ) → size (sidTrees label registry v base at) ≤ 1
 unfolding sidTrees
 size-sid-le label registry v base at =
     either (λ (f : Forest). size f ≤ 1) (leb (at + 4) (length v)) _ _ (omega arith) (either (λ (f : Forest). size f ≤ 1) (leb (at + 3) (length v)) _ none (omega arith) (omega arith))
@@ -69,20 +69,12 @@ element-fits (numbers label shape width) xs = whole-fits width xs
 element-fits msds xs = whole-fits 2 xs
 element-fits ranges xs = range-fits xs
 
--- a range has at least 5 octets
-pub range-least : (xs : List ℕ) → 0 < rangeLength xs → 5 ≤ rangeLength xs
-unfolding rangeLength
-range-least xs some =
-    let is : isRange xs ≡ true = passed (isRange xs) (whole (5 + getD xs 4 0) xs) some in
-    let some′ : 0 < whole (5 + getD xs 4 0) xs = rw is at some in
-    rw is (omega (arith, whole-is (5 + getD xs 4 0) xs some′))
-
 element-small : (element : Element) (registry : ℕ) (xs : List ℕ) → 0 < elementLength element xs → (at : ℕ)
     → 3 * size (elementTrees element registry (take (elementLength element xs) xs) at) ≤ 7 * elementLength element xs
 unfolding elementTrees _⧺_
 element-small (numbers label shape width) registry xs some at = omega arith
 element-small msds registry xs some at = omega (arith, whole-is 2 xs some)
-element-small ranges registry xs some at = omega (arith, range-least xs some, size-sid-le Label.rangeSid registry (take (rangeLength xs) xs) at 5)
+element-small ranges registry xs some at = omega (arith, range-eight xs some, size-sid-le Label.rangeSid registry (take (rangeLength xs) xs) at 5)
 
 array-bound : (label : Label) (registry at : ℕ) (element : Element) (xs : List ℕ)
     → 3 * size (arrayOf label registry (elementTrees element registry) at (pieces (elementLength element) xs)) ≤ 3 + 7 * total (pieces (elementLength element) xs)

@@ -1,18 +1,17 @@
 -- Every call that is done leaves an area's records entry by entry.
-use mathlib.Core.Path.{_≡_, refl, sym, ap, _∙_, subst}
-use mathlib.Core.List.{List, [], _∷_, _++_, append-nil, head-eq-of-cons-eq, tail-eq-of-cons-eq}
-use Prim.Native.Nat.{ℕ, suc, _+_, _<_}
+use mathlib.Core.Path.{_≡_, sym, ap, _∙_, subst}
+use mathlib.Core.List.{List, _∷_, _++_, append-nil, head-eq-of-cons-eq, tail-eq-of-cons-eq}
+use Prim.Native.Nat.{ℕ, suc, _+_}
 use native.Mathlib.Nat.{add-zero}
 use native.Mathlib.Omega.{arith}
 use lib.ListN.{length, take, drop, length-append}
 use lib.Seq.{take-at, drop-at}
 use Rattle.tape.specs.Record.{containerRecord}
-use Rattle.tape.specs.Tape.{used, recordAt, load}
+use Rattle.tape.specs.Tape.{recordAt, load}
 use Rattle.tape.specs.LoadLaws.{length-load, load-append}
 use Rattle.tape.specs.Forest.{Forest, none, node, size, _⧺_, flat}
 use Rattle.tape.specs.ForestLaws.{⧺-none, size-⧺, length-flat, flat-⧺}
 use Rattle.tape.specs.declared.Content.{Content}
-use Rattle.tape.specs.declared.Record.{Record}
 use Rattle.meaning.specs.Label
 use Rattle.meaning.specs.Cut.{total, each}
 use Rattle.meaning.specs.CutLaws.{each-++}
@@ -23,14 +22,15 @@ use Rattle.meaning.specs.Label.{number}
 use Rattle.meaning.specs.Shape.{array, containerNumber}
 use Rattle.meaning.specs.Tree.{content, over}
 use Rattle.meaning.specs.Array.{arrayOf}
-use Rattle.meaning.specs.Value.{Walk, pushBy}
-use Rattle.meaning.specs.Area.{entryTrees, walkTrees, innerWalk, walked, pushed}
+use Rattle.meaning.specs.Value.{pushBy}
+use Rattle.meaning.specs.Area.{entryTrees, innerWalk, walked, pushed}
+use Rattle.meaning.specs.AreaLaws.{walk-shows}
 use Rattle.meaning.specs.Theorems.Entries.{Ending, leave, show, called, beside, Holds, before, own, after, endAt, EntryByEntry}
 
 -- Holds
 
 -- two forests, one after the other
-pub holds-⧺ : (f g : Forest) (tape : List ℕ) (at : ℕ) → Holds tape at (f ⧺ g) → Holds tape at f × Holds tape (at + size f) g
+holds-⧺ : (f g : Forest) (tape : List ℕ) (at : ℕ) → Holds tape at (f ⧺ g) → Holds tape at f × Holds tape (at + size f) g
 holds-⧺ f g tape at there =
     let both : load tape at (size f) ++ load tape (at + size f) (size g) ≡ flat at f ++ flat (at + size f) g =
     sym (load-append (size f) (size g) tape at) ∙ ap (load tape at) (sym (size-⧺ f g)) ∙ there ∙ flat-⧺ f g at in
@@ -41,19 +41,12 @@ holds-⧺ f g tape at there =
     )
 
 -- a container
-pub holds-node : (m : Content) (k : Forest) (tape : List ℕ) (at : ℕ) → Holds tape at (node m k none) → (recordAt tape at ≡ containerRecord m (suc at) (suc at + size k)) × Holds tape (suc at) k
+holds-node : (m : Content) (k : Forest) (tape : List ℕ) (at : ℕ) → Holds tape at (node m k none) → (recordAt tape at ≡ containerRecord m (suc at) (suc at + size k)) × Holds tape (suc at) k
 unfolding load flat
 holds-node m k tape at there =
     (head-eq-of-cons-eq there, ap (load tape (suc at)) (sym (add-zero (size k))) ∙ tail-eq-of-cons-eq there ∙ append-nil (flat (suc at) k))
 
 -- the trees
-
--- an area that has entries shows one array over them
-walk-shows : (plan : Plan) (walk : Walk) (registry : ℕ) (area : List ℕ) (base : ℕ) → 0 < length (entries area)
-    → walkTrees plan walk registry area base ≡ arrayOf Label.subTlvs registry (entryTrees plan walk registry) base (entries area)
-unfolding walkTrees
-walk-shows plan walk registry [] base some = absurd (omega (arith, ap length entries-none))
-walk-shows plan walk registry (x ∷ xs) base some = refl
 
 module _ (plan : Plan) (registry : ℕ) (area : List ℕ) (base : ℕ) (ps : List (List ℕ)) (q : List ℕ) (us : List (List ℕ)) (found : entries area ≡ ps ++ q ∷ us) where
   -- the walk shows an array over the entries
@@ -62,11 +55,11 @@ module _ (plan : Plan) (registry : ℕ) (area : List ℕ) (base : ℕ) (ps : Lis
   unfolding walked covered arrayOf each
   walked-entries =
       let entryOf = entryTrees plan (innerWalk plan) registry in
-      walk-shows plan (innerWalk plan) registry area base (omega (arith, ap length found, length-append ps (q ∷ us)))
+      walk-shows plan (innerWalk plan) registry area base (λ none-there. omega (arith, ap length (sym found ∙ ap entries none-there ∙ entries-none), length-append ps (q ∷ us)))
       ∙ ap (λ (trees : Forest). over Label.subTlvs array registry base (base + total (entries area)) trees) (ap (each entryOf base) found ∙ each-++ entryOf base ps (q ∷ us))
 
   -- and the call what stands beside it
-  pub called-entries : (e : Ending) → called e plan registry area base
+  called-entries : (e : Ending) → called e plan registry area base
       ≡ over Label.subTlvs array registry base (base + covered area) (before plan registry base ps q us ⧺ own plan registry base ps q us ⧺ after plan registry base ps q us) ⧺ beside e registry area base
   unfolding pushed pushBy
   called-entries leave = walked-entries ∙ sym (⧺-none (over Label.subTlvs array registry base (base + covered area) (before plan registry base ps q us ⧺ own plan registry base ps q us ⧺ after plan registry base ps q us)))

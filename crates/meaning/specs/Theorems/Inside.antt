@@ -18,7 +18,7 @@ use Rattle.meaning.specs.Shape.{Shape, u8, ipv6, bytes}
 use Rattle.meaning.specs.Cut.{Measure, pieces, total, each}
 use Rattle.meaning.specs.CutLaws.{pieces-ind, total-le}
 use Rattle.meaning.specs.Frame.{entryLength, entries, covered, remainder, rangeLength}
-use Rattle.meaning.specs.FrameLaws.{whole-is, entry-fits}
+use Rattle.meaning.specs.FrameLaws.{whole-is, entry-fits, range-eight}
 use Rattle.meaning.specs.Field.{Element, numbers, msds, ranges, Field, part, flag, sid, array, tail, push, Plan}
 use Rattle.meaning.specs.Tree.{one, raw}
 use Rattle.meaning.specs.Sid.{sidTrees}
@@ -31,7 +31,7 @@ use Rattle.meaning.specs.Theorems.Plan.{Every, need, Fitting}
 use Rattle.meaning.specs.Theorems.PlanLaws.{every-so}
 use Rattle.meaning.specs.Theorems.Closed.{Closed, push-closed, value-closed}
 use Rattle.meaning.specs.Theorems.EachRecord.{EachRecord, each-record-++}
-use Rattle.meaning.specs.Theorems.Bound.{element-fits, range-least, entry-least, span-inside}
+use Rattle.meaning.specs.Theorems.Bound.{element-fits, entry-least, span-inside}
 
 -- every record is inside the octets from lo up to hi, and inside its container
 unfoldable pub Within : ℕ → ℕ → Forest → Type 0
@@ -112,7 +112,7 @@ within-element msds registry xs some at =
 within-element ranges registry xs some at =
     let p : List ℕ = take (rangeLength xs) xs in
     let same : length p ≡ rangeLength xs = length-take-le (rangeLength xs) xs (element-fits ranges xs) in
-    (omega arith, (omega (arith, same), ((omega arith, (omega (arith, same, range-least xs some), within-sid Label.rangeSid registry p at 5)), tt)))
+    (omega arith, (omega (arith, same), ((omega arith, (omega (arith, same, range-eight xs some), within-sid Label.rangeSid registry p at 5)), tt)))
 
 within-array : (label : Label) (registry : ℕ) (f : List ℕ → ℕ → Forest) (at : ℕ) (ps : List (List ℕ)) (lo hi : ℕ) → lo ≤ at → at + total ps ≤ hi → Within at (at + total ps) (each f at ps) → Within lo hi (arrayOf label registry f at ps)
 unfolding Within arrayOf

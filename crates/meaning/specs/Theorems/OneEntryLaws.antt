@@ -1,7 +1,7 @@
 -- Demand 3 holds of the calls walk and push, by one proof over both, and by any reading.
 use mathlib.Core.Path.{_≡_, refl, sym, ap, _∙_, subst}
-use mathlib.Core.List.{List, [], _∷_, _++_, map}
-use Prim.Native.Nat.{ℕ, suc, _+_, _-_}
+use mathlib.Core.List.{List, [], _∷_, map}
+use Prim.Native.Nat.{ℕ, suc, _+_}
 use native.Mathlib.Omega.{arith}
 use lib.ListN.{length, drop}
 use Rattle.outcome.specs.Call.{After, Gives}
@@ -10,9 +10,8 @@ use Rattle.tape.specs.Record.{moved}
 use Rattle.tape.specs.Tape.{used, load}
 use Rattle.tape.specs.Forest.{Forest, size, flat}
 use Rattle.tape.specs.ForestLaws.{flat-moved}
-use Rattle.tape.specs.declared.Record.{Record}
 use Rattle.meaning.specs.Cut.{total, each}
-use Rattle.meaning.specs.Frame.{entries, covered, remainder}
+use Rattle.meaning.specs.Frame.{covered, remainder}
 use Rattle.meaning.specs.Field.{Plan}
 use Rattle.meaning.specs.Table.{usual}
 use Rattle.meaning.specs.Tree.{raw}
@@ -20,21 +19,20 @@ use Rattle.meaning.specs.Value.{Walk}
 use Rattle.meaning.specs.Area.{entryTrees, innerWalk}
 use Rattle.meaning.specs.AreaCall.{appended, areaCall, walkCall, pushCall}
 use Rattle.meaning.specs.AreaCallLaws.{appended-load, call-done}
-use Rattle.meaning.specs.Theorems.Form.{Differ, SameFrame}
 use Rattle.meaning.specs.Theorems.FormLaws.{same-frame}
-use Rattle.meaning.specs.Theorems.Entries.{Ending, leave, show, called, beside, Holds, before, own, after, ownAt, afterAt, endAt, EntryByEntry}
+use Rattle.meaning.specs.Theorems.Entries.{Ending, leave, show, called, beside, Holds, before, own, after, afterAt, endAt, EntryByEntry}
 use Rattle.meaning.specs.Theorems.EntriesLaws.{entry-by-entry}
 use Rattle.meaning.specs.Theorems.OneEntry.{Two, OneEntry}
 
 -- a run that was accepted
 
 -- what it showed stands behind the used records, counted, and it covered what the entries cover
-pub record Accepted (shows : Walk) (registry : ℕ) (area : List ℕ) (base : ℕ) (t : List ℕ) (o : Outcome) (x : List ℕ) : Type 0 where
+record Accepted (shows : Walk) (registry : ℕ) (area : List ℕ) (base : ℕ) (t : List ℕ) (o : Outcome) (x : List ℕ) : Type 0 where
   pub there : Holds x (used t) (shows registry area base)
   pub written : o .written ≡ size (shows registry area base)
   pub covers : o .covered ≡ covered area
 
-pub accepted : (shows : Walk) (registry : ℕ) (area : List ℕ) (base : ℕ) (t : List ℕ) (o : Outcome) (x : List ℕ) → Gives (areaCall shows registry area base t) o x → o .answer ≡ 0 → Accepted shows registry area base t o x
+accepted : (shows : Walk) (registry : ℕ) (area : List ℕ) (base : ℕ) (t : List ℕ) (o : Outcome) (x : List ℕ) → Gives (areaCall shows registry area base t) o x → o .answer ≡ 0 → Accepted shows registry area base t o x
 accepted shows registry area base t o x ran zero =
     let d = call-done shows area base t registry (sym (ap (λ (o : Outcome). o .answer) (ran .gave)) ∙ zero) in
     let trees : Forest = shows registry area base in

@@ -1,20 +1,18 @@
 -- What a walk or a push wrote, read gives back.
-use mathlib.Core.Path.{_≡_, _∙_}
-use mathlib.Core.Logic.{inl}
+use mathlib.Core.Path.{_≡_}
 use mathlib.Core.Bool.{true}
 use mathlib.Core.List.{List}
 use Prim.Native.Nat.{ℕ, zero, suc, _+_, _-_, _≤_, _<_}
-use native.Mathlib.Omega.{arith}
-use lib.ListN.{length}
 use Rattle.outcome.specs.Call.{done}
-use Rattle.tape.specs.Tape.{used, room, headed, recordAt, load}
+use Rattle.tape.specs.Tape.{used, room, headed, recordAt, load, store}
 use Rattle.tape.specs.HeaderLaws.{headed-in-order, in-order-headed}
 use Rattle.tape.specs.Forest.{Forest, none, leaf, node, size, flat}
 use Rattle.calls.specs.Calls.{readable, readCall}
 use Rattle.calls.specs.CallsLaws.{read-0}
+use Rattle.calls.specs.WellNestedLaws.{in-order-laid}
 use Rattle.tape.specs.declared.Record.{Record}
 use Rattle.meaning.specs.AreaCall.{appended}
-use Rattle.meaning.specs.AreaCallLaws.{appended-used, appended-load, appended-other, length-appended}
+use Rattle.meaning.specs.AreaCallLaws.{laid, inside, appended-used, appended-load}
 use Rattle.meaning.specs.Theorems.EachRecord.{EachRecord, each-record-++, each-record-at}
 use Rattle.meaning.specs.Theorems.Sound.{Sound}
 use Rattle.meaning.specs.Theorems.SoundLaws.{fine-readable}
@@ -36,18 +34,10 @@ sound-readable (suc d) (node m k f) x at = (
 
 module _ (t : List ℕ) (trees : Forest) (good : headed t ≡ true) (fits : size trees ≤ room t - used t) where
   -- the header stays in order
-  pub appended-headed : headed (appended trees t) ≡ true
+  appended-headed : headed (appended trees t) ≡ true
+  unfolding appended
   appended-headed =
-      let x = headed-in-order t good in
-      let same : length (appended trees t) ≡ length t = length-appended t trees in
-      in-order-headed (appended trees t)
-      (record {
-        long = omega (arith, x .long);
-        offset = appended-other t trees good fits 1 (omega arith) (inl (omega arith)) ∙ x .offset;
-        width = appended-other t trees good fits 2 (omega arith) (inl (omega arith)) ∙ x .width;
-        last = appended-other t trees good fits 3 (omega arith) (inl (omega arith)) ∙ x .last;
-        fits = rw (appended-used t trees good fits, same) (omega (arith, x .fits));
-      })
+      in-order-headed (appended trees t) (in-order-laid t (store t (used t) (flat (used t) trees)) trees (used t) (used t + size trees) (laid t trees good fits) (headed-in-order t good) (inside t trees good fits))
 
   -- a new record is read
   pub read-back : (d : ℕ) → Sound d trees → (i : ℕ) → used t ≤ i → i < used t + size trees

@@ -18,7 +18,7 @@ use Rattle.meaning.specs.Shape.{Shape, u8, u32, ipv6, bytes, Container, 
 use Rattle.meaning.specs.Cut.{total, each}
 use Rattle.meaning.specs.Frame.{entries, covered, remainder}
 use Rattle.meaning.specs.Field.{Element, numbers, msds, ranges, Field, part, flag, sid, array, tail, push, Plan}
-use Rattle.meaning.specs.Tree.{one, over, raw, value, numberIn}
+use Rattle.meaning.specs.Tree.{one, over, raw, numberIn}
 use Rattle.meaning.specs.Sid.{sidTrees}
 use Rattle.meaning.specs.Array.{startOf, elementTrees, arrayOf}
 use Rattle.meaning.specs.Tail.{lengthAt, innerFits, inner}

@@ -62,7 +62,7 @@ walk-same plan walk walk′ registry same (x ∷ xs) base =
 
 module _ (plan : Plan) (flat : Flat plan) where
   -- in an area inside a value nothing is walked again
-  pub inner-same : (walk walk′ : Walk) (registry : ℕ) (area : List ℕ) (base : ℕ) → isInner registry ≡ true → walkTrees plan walk registry area base ≡ walkTrees plan walk′ registry area base
+  inner-same : (walk walk′ : Walk) (registry : ℕ) (area : List ℕ) (base : ℕ) → isInner registry ≡ true → walkTrees plan walk registry area base ≡ walkTrees plan walk′ registry area base
   inner-same walk walk′ registry area base inside =
       walk-same plan walk walk′ registry
       (λ t v at. value-same walk walk′ registry v at (plan registry t v)

@@ -3,9 +3,8 @@ use mathlib.Core.Path.{refl, sym, _∙_}
 use native.Mathlib.Omega.{arith}
 use borrow.Author.Tests.{not-true, not-false}
 use Rattle.outcome.specs.CallLaws.{gives-as}
-use Rattle.meaning.specs.AreaCallLaws.{call-2, call-3, call-4, accepted}
+use Rattle.meaning.specs.AreaCallLaws.{call-unknown, call-known, call-2, call-3, call-4, accepted}
 use Rattle.subtlv.specs.Call.{shownBy}
-use Rattle.subtlv.specs.CallLaws.{call-unknown, call-known}
 use borrow.Author.Needs.{needs}
 use Rattle.subtlv.proofs.area_call.Statement.{statement}
 use Rattle.subtlv.proofs.area_call.Tie as tie

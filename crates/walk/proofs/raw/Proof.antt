@@ -1,7 +1,7 @@
 -- Octets are left, or none.
 use Prim.Native.Nat.{_+_}
 use Rattle.tape.specs.LaidLaws.{laid-none}
-use Rattle.walk.specs.RestLaws.{raw-none, raw-some}
+use Rattle.meaning.specs.AreaLaws.{raw-none, raw-some}
 use borrow.Author.Needs.{needs}
 use Rattle.walk.proofs.raw.Statement.{statement}
 use Rattle.walk.proofs.raw.Tie as tie

@@ -7,7 +7,7 @@ use Rattle.meaning.specs.TableLaws.{leastIn, fieldsIn}
 use Rattle.meaning.specs.Value.{fieldEnd, fieldTrees, fieldsTrees, taken}
 use Rattle.decoders.specs.Reading.{readingOf}
 use Rattle.decoders.specs.ReadingLaws.{reads-as, of-type, of-unknown, row-given}
-use Rattle.decoders.specs.RowsLaws.{bandwidth-types, past-36, below, above}
+use Rattle.decoders.specs.RowsLaws.{bandwidth-types, past-36}
 use borrow.Author.Needs.{needs}
 use Rattle.decoders.proofs.neighbor.neighbor.Statement.{statement}
 use Rattle.decoders.proofs.neighbor.neighbor.Tie as tie
@@ -173,11 +173,11 @@ returns-16 c = let g = c .before .before .before .before .before .before .before
 
 returns-17 : tie.Need-returns-17
 unfolding table
-returns-17 c = let g = c .before .before .before .before .args in let v = g .value .now in let r = c .before .match .rest in of-unknown 0 (g .kind) v (g .base .0) (r .0 .0 .0 .0 .0 .0 .0 .0 .0 .0 .0 .0 .0 .0 .1, (r .0 .0 .0 .0 .0 .0 .0 .0 .0 .0 .1, (r .0 .0 .0 .0 .0 .0 .0 .0 .0 .1, (r .0 .0 .0 .0 .0 .0 .0 .0 .0 .0 .0 .0 .0 .1, (r .0 .0 .0 .0 .0 .0 .0 .0 .0 .0 .0 .0 .1, (r .0 .0 .0 .0 .0 .0 .0 .0 .0 .0 .0 .1, (r .0 .0 .0 .0 .0 .0 .0 .1, (r .0 .0 .0 .0 .0 .0 .1, (r .0 .0 .0 .0 .0 .0 .0 .0 .1, (r .0 .0 .0 .0 .0 .1, ((c .before .before .before .before .pre .0), (r .0 .0 .0 .0 .1, (r .0 .0 .0 .1, (r .1, (r .0 .0 .1, (r .0 .1, (below (g .kind) 37 (omega arith), (below (g .kind) 38 (omega arith), (below (g .kind) 39 (omega arith), (c .before .before .before .before .pre .1, (c .before .before .before .before .pre .2, tt)))))))))))))))))))))
+returns-17 c = let g = c .before .before .before .before .args in let v = g .value .now in let r = c .before .match .rest in of-unknown 0 (g .kind) v (g .base .0) (r .0 .0 .0 .0 .0 .0 .0 .0 .0 .0 .0 .0 .0 .0 .1, (r .0 .0 .0 .0 .0 .0 .0 .0 .0 .0 .1, (r .0 .0 .0 .0 .0 .0 .0 .0 .0 .1, (r .0 .0 .0 .0 .0 .0 .0 .0 .0 .0 .0 .0 .0 .1, (r .0 .0 .0 .0 .0 .0 .0 .0 .0 .0 .0 .0 .1, (r .0 .0 .0 .0 .0 .0 .0 .0 .0 .0 .0 .1, (r .0 .0 .0 .0 .0 .0 .0 .1, (r .0 .0 .0 .0 .0 .0 .1, (r .0 .0 .0 .0 .0 .0 .0 .0 .1, (r .0 .0 .0 .0 .0 .1, ((c .before .before .before .before .pre .0), (r .0 .0 .0 .0 .1, (r .0 .0 .0 .1, (r .1, (r .0 .0 .1, (r .0 .1, ((λ is. omega arith), ((λ is. omega arith), ((λ is. omega arith), (c .before .before .before .before .pre .1, (c .before .before .before .before .pre .2, tt)))))))))))))))))))))
 
 returns-18 : tie.Need-returns-18
 unfolding table
-returns-18 c = let g = c .before .before .before .before .before .args in let v = g .value .now in let r = c .before .before .match .rest in of-unknown 0 (g .kind) v (g .base .0) (r .0 .0 .0 .0 .0 .0 .0 .0 .0 .0 .0 .0 .0 .0 .1, (r .0 .0 .0 .0 .0 .0 .0 .0 .0 .0 .1, (r .0 .0 .0 .0 .0 .0 .0 .0 .0 .1, (r .0 .0 .0 .0 .0 .0 .0 .0 .0 .0 .0 .0 .0 .1, (r .0 .0 .0 .0 .0 .0 .0 .0 .0 .0 .0 .0 .1, (r .0 .0 .0 .0 .0 .0 .0 .0 .0 .0 .0 .1, (r .0 .0 .0 .0 .0 .0 .0 .1, (r .0 .0 .0 .0 .0 .0 .1, (r .0 .0 .0 .0 .0 .0 .0 .0 .1, (r .0 .0 .0 .0 .0 .1, ((c .before .before .before .before .before .pre .0), (r .0 .0 .0 .0 .1, (r .0 .0 .0 .1, (r .1, (r .0 .0 .1, (r .0 .1, (above (g .kind) 37 (omega arith), (above (g .kind) 38 (omega arith), (above (g .kind) 39 (omega arith), (c .before .before .before .before .before .pre .1, (c .before .before .before .before .before .pre .2, tt)))))))))))))))))))))
+returns-18 c = let g = c .before .before .before .before .before .args in let v = g .value .now in let r = c .before .before .match .rest in of-unknown 0 (g .kind) v (g .base .0) (r .0 .0 .0 .0 .0 .0 .0 .0 .0 .0 .0 .0 .0 .0 .1, (r .0 .0 .0 .0 .0 .0 .0 .0 .0 .0 .1, (r .0 .0 .0 .0 .0 .0 .0 .0 .0 .1, (r .0 .0 .0 .0 .0 .0 .0 .0 .0 .0 .0 .0 .0 .1, (r .0 .0 .0 .0 .0 .0 .0 .0 .0 .0 .0 .0 .1, (r .0 .0 .0 .0 .0 .0 .0 .0 .0 .0 .0 .1, (r .0 .0 .0 .0 .0 .0 .0 .1, (r .0 .0 .0 .0 .0 .0 .1, (r .0 .0 .0 .0 .0 .0 .0 .0 .1, (r .0 .0 .0 .0 .0 .1, ((c .before .before .before .before .before .pre .0), (r .0 .0 .0 .0 .1, (r .0 .0 .0 .1, (r .1, (r .0 .0 .1, (r .0 .1, ((λ is. omega arith), ((λ is. omega arith), ((λ is. omega arith), (c .before .before .before .before .before .pre .1, (c .before .before .before .before .before .pre .2, tt)))))))))))))))))))))
 
 pub neighbor-spec : {M : Type 1} → statement M
 neighbor-spec =

@@ -2,9 +2,8 @@
 use native.Mathlib.Omega.{arith}
 use Prim.Native.Nat.{_+_}
 use mathlib.Core.Path.{sym}
-use mathlib.Core.Logic.{⊎-elim}
+use mathlib.Core.Logic.{inl, inr, ⊎-elim}
 use Rattle.meaning.specs.PlaceLaws.{range-few, range-other, range-neither, range-here, range-over}
-use Rattle.fields.specs.ElementLaws.{three-is, four-is}
 use borrow.Author.Needs.{needs}
 use Rattle.fields.proofs.array.range_length.Statement.{statement}
 use Rattle.fields.proofs.array.range_length.Tie as tie
@@ -40,10 +39,10 @@ add-length : tie.Need-add-length
 add-length c = omega (arith, c .before .shared-slice-known2 .given (c .before .before .before .before .before .args .at + 4))
 
 returns-4 : tie.Need-returns-4
-returns-4 c = sym (range-over _ _ (c .before .before .before .before .before .before .pre) (c .before .before .before .if2 .left) (⊎-elim (λ w. four-is _ (w .1 .left)) (λ w. three-is _ (w .left)) (c .before .if3 .came)) (omega arith))
+returns-4 c = sym (range-over _ _ (c .before .before .before .before .before .before .pre) (c .before .before .before .if2 .left) (⊎-elim (λ w. inr (w .1 .left)) (λ w. inl (w .left)) (c .before .if3 .came)) (omega arith))
 
 returns-5 : tie.Need-returns-5
-returns-5 c = sym (range-here _ _ (c .before .before .before .before .before .before .pre) (c .before .before .before .if2 .left) (⊎-elim (λ w. four-is _ (w .1 .left)) (λ w. three-is _ (w .left)) (c .before .if3 .came)) (omega arith))
+returns-5 c = sym (range-here _ _ (c .before .before .before .before .before .before .pre) (c .before .before .before .if2 .left) (⊎-elim (λ w. inr (w .1 .left)) (λ w. inl (w .left)) (c .before .if3 .came)) (omega arith))
 
 pub range-length-spec : {M : Type 1} → statement M
 range-length-spec =

@@ -7,7 +7,6 @@ use Rattle.tape.specs.LaidLaws.{laid-then}
 use Rattle.meaning.specs.Field.{tail}
 use Rattle.decoders.specs.ReadingLaws.{row-short}
 use Rattle.decoders.specs.Rows.{systemId, endXHead}
-use Rattle.decoders.specs.RowsLaws.{below, above}
 use Rattle.walk.specs.NestedLaws.{nested-room, nested-made, system-id-size, end-x}
 use Prim.Native.Nat.{ℕ, _+_}
 use borrow.Author.Needs.{needs}
@@ -51,7 +50,7 @@ pub tail-requires : (t : ℕ) → decode-neighbor-lts.Need-tail-requires (callee
 tail-requires t c κs = let g = c .before .before .before .before .before .before .before .before .before .before .before .before .before .before .before .args in let v = g .value .now in let b = g .base .0 in let id = c .before .before .before .before .before .before .before .before .before .before .for-type .result in let x = end-x (g .kind) id v b (c .before .before .before .before .before .before .before .before .before .before .before .before .if1 .left) (c .before .before .before .before .before .before .before .before .before .before .before .if2 .taken) (c .before .before .before .before .before .before .before .before .before .before .for-type .ensures) in (omega arith, (omega arith, nested-room (g .kind) 0 v b (x .row) (rw (x .least) (c .before .before .before .before .before .before .before .before .before .if3 .left)) (systemId id 0 b ⧺ endXHead 0 v b id) (tail (id + 5)) (x .is) (c .before .before .before .before .before .before .before .before .before .before .before .before .before .before .before .pre .1 .1) (omega (arith, c .before .before .before .before .before .before .before .system-id .ensures .place, c .before .before .before .end-x-head .ensures .place, size-⧺ (systemId id 0 b) (endXHead 0 v b id)))))
 
 pub neighbor-requires : (t : ℕ) → decode-neighbor-lts.Need-neighbor-requires (callees t) (decode-neighbor-at t) decode-neighbor.Post
-neighbor-requires t c κs = let g = c .before .before .before .before .args in (c .before .before .before .before .pre .1 .0, (λ e. ⊎-elim (λ a. below (g .kind) 43 (omega (arith, a .taken)) e) (λ w. above (g .kind) 43 (omega (arith, w .1 .left)) e) (c .before .if1 .came)), (λ e. ⊎-elim (λ a. below (g .kind) 44 (omega (arith, a .taken)) e) (λ w. above (g .kind) 44 (omega (arith, w .1 .left)) e) (c .before .if1 .came)), omega arith, omega arith)
+neighbor-requires t c κs = (c .before .before .before .before .pre .1 .0, (λ e. ⊎-elim (λ a. omega (arith, a .taken)) (λ w. omega (arith, w .1 .left)) (c .before .if1 .came)), (λ e. ⊎-elim (λ a. omega (arith, a .taken)) (λ w. omega (arith, w .1 .left)) (c .before .if1 .came)), omega arith, omega arith)
 
 pub same-length : (t : ℕ) → decode-neighbor-lts.Need-same-length (callees t) (decode-neighbor-at t) decode-neighbor.Post
 same-length t c = omega arith

@@ -7,7 +7,6 @@ use Rattle.meaning.specs.AreaCallLaws.{number-low}
 use Rattle.meaning.specs.PlaceLaws.{part-rest}
 use Rattle.walk.specs.EntryLaws.{entry-made, entry-room}
 use borrow.Author.Needs.{needs}
-use mathlib.Core.Path.{refl}
 use Rattle.walk.proofs.+decode+decode_neighbor+decode_prefix+decode_router_capability+entry+push+tail+walk.Proof.Measures.{entry-at, decode-below}
 use Rattle.walk.proofs.+decode+decode_neighbor+decode_prefix+decode_router_capability+entry+push+tail+walk.Lts-entry as entry-lts
 use Rattle.walk.proofs.decode.Reads as decode
@@ -47,10 +46,10 @@ pub add-t22 : (t : ℕ) → entry-lts.Need-add-t22 (callees t) (entry-at t) entr
 add-t22 t c = omega (arith, c .before .before .before .before .before .before .before .before .before .pre .1 .1 .position)
 
 pub decode-requires : (t : ℕ) → entry-lts.Need-decode-requires (callees t) (entry-at t) entry.Post
-decode-requires t c κs = let g = c .before .before .before .before .before .before .before .before .before .args in let e = g .octets .now in let r = entry-room (numberOf (g .registry)) e (g .base .0) (c .before .before .before .before .before .before .before .before .before .pre .1 .0) (c .before .before .before .before .before .before .before .before .before .pre .1 .1) refl in rw (part-rest 2 e) (omega (arith, length-drop 2 e), r)
+decode-requires t c κs = let g = c .before .before .before .before .before .before .before .before .before .args in let e = g .octets .now in let r = entry-room (numberOf (g .registry)) e (g .base .0) (c .before .before .before .before .before .before .before .before .before .pre .1 .0) (c .before .before .before .before .before .before .before .before .before .pre .1 .1) in rw (part-rest 2 e) (omega (arith, length-drop 2 e), r)
 
 pub rest-requires : (t : ℕ) → entry-lts.Need-rest-requires (callees t) (entry-at t) entry.Post
-rest-requires t c κs = let g = c .before .before .before .before .before .before .before .before .before .before .before .before .before .before .args in let e = g .octets .now in let r = entry-room (numberOf (g .registry)) e (g .base .0) (c .before .before .before .before .before .before .before .before .before .before .before .before .before .before .pre .1 .0) (c .before .before .before .before .before .before .before .before .before .before .before .before .before .before .pre .1 .1) refl in let d = rw (part-rest 2 e) at (c .before .before .before .before .decode .ensures) in rw (part-rest 2 e) (omega (arith, r .octet, r .position, d .laid .place))
+rest-requires t c κs = let g = c .before .before .before .before .before .before .before .before .before .before .before .before .before .before .args in let e = g .octets .now in let r = entry-room (numberOf (g .registry)) e (g .base .0) (c .before .before .before .before .before .before .before .before .before .before .before .before .before .before .pre .1 .0) (c .before .before .before .before .before .before .before .before .before .before .before .before .before .before .pre .1 .1) in let d = rw (part-rest 2 e) at (c .before .before .before .before .decode .ensures) in rw (part-rest 2 e) (omega (arith, r .octet, r .position, d .laid .place))
 
 pub entry-head-requires : (t : ℕ) → entry-lts.Need-entry-head-requires (callees t) (entry-at t) entry.Post
 entry-head-requires t c κs = omega (arith, c .before .before .before .before .before .before .before .before .before .before .before .before .before .before .before .before .before .before .pre .1 .1 .octet, c .before .before .before .before .before .before .before .before .before .before .before .before .before .before .before .before .before .before .pre .1 .1 .position)
