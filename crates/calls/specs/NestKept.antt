@@ -11,13 +11,14 @@ use Rattle.outcome.specs.Call.{After}
 use Rattle.calls.specs.Limits.{deepest}
 use Rattle.tape.specs.Tape.{used, headed, withUsed, recordAt, load}
 use Rattle.tape.specs.HeaderLaws.{in-order-headed, with-used-in-order, used-inside}
+use Rattle.tape.specs.LoadLaws.{load-with-used, used-with-used}
 use Rattle.calls.specs.Calls.{cleared, clearCall, endBy, cutBackCall}
 use Rattle.calls.specs.CallsLaws.{clear-0, cleared-in-order, used-cleared, fails-cut, cut-6, cut-7, cut-0}
 use Rattle.calls.specs.Nest.{trees, nestTest}
 use Rattle.calls.specs.NestLaws.{ends-container, trees-none, trees-cases, past-container, past-leaf}
 use Rattle.calls.specs.WellNested.{Split, WellNested}
 use Rattle.calls.specs.SplitLaws.{trees-split, split-trees}
-use Rattle.calls.specs.WellNestedLaws.{yes-nested, nested-yes, load-with-used, used-with-used}
+use Rattle.calls.specs.WellNestedLaws.{yes-nested, nested-yes}
 
 -- clear
 

@@ -11,9 +11,9 @@ use Rattle.outcome.specs.Call.{After, Gives}
 use Rattle.outcome.specs.declared.Outcome.{Outcome}
 use Rattle.tape.specs.Tape.{InOrder, used, room, headed, withUsed, load}
 use Rattle.tape.specs.HeaderLaws.{headed-in-order, in-order-headed, with-used-in-order}
+use Rattle.tape.specs.LoadLaws.{used-with-used}
 use Rattle.calls.specs.Calls.{cleared, clearCall, endBy, cutBackCall}
 use Rattle.calls.specs.CallsLaws.{clear-4, clear-0, cleared-in-order, used-cleared, cut-4, cut-6, cut-7, cut-0}
-use Rattle.calls.specs.WellNestedLaws.{used-with-used}
 
 -- the tape t became x: its header is in order, it has as much room, and n records are used
 pub record Freed (t x : List ℕ) (n : ℕ) : Type 0 where

@@ -12,7 +12,7 @@ use Rattle.calls.specs.Limits.{deepest}
 use Rattle.tape.specs.Both.{both, and-true}
 use Rattle.tape.specs.Tape.{InOrder, used, headed, withUsed, load}
 use Rattle.tape.specs.HeaderLaws.{headed-in-order, in-order-headed, with-used-in-order}
-use Rattle.tape.specs.LoadLaws.{record-same, load-same, load-append}
+use Rattle.tape.specs.LoadLaws.{load-append, load-with-used, used-with-used}
 use Rattle.tape.specs.Forest.{Forest, size, _⧺_, flat, depth, Formed}
 use Rattle.tape.specs.ForestLaws.{flat-⧺, depth-⧺, formed-⧺}
 use Rattle.tape.specs.Laid.{Laid}
@@ -33,14 +33,6 @@ yes-nested t yes′ =
 pub nested-yes : (t : List ℕ) → WellNested t → nestTest t ≡ true
 unfolding nestTest
 nested-yes t x = and-true (in-order-headed t (x .header)) (split-trees t deepest 0 (used t) (omega arith) (x .records))
-
--- a count of used records is no part of a record
-pub load-with-used : (t : List ℕ) (count at n : ℕ) → load (withUsed count t) at n ≡ load t at n
-load-with-used t count at n = load-same n (withUsed count t) t at (λ i from below. record-same (withUsed count t) t i (λ k small. getD-set-other t 0 (4 + 6 * i + k) count 0 (omega arith)))
-
--- and it is the count
-pub used-with-used : (t : List ℕ) (count : ℕ) → 4 ≤ length t → used (withUsed count t) ≡ count
-used-with-used t count long = getD-set-same t 0 count 0 (omega arith)
 
 -- laid behind trees
 

@@ -16,7 +16,7 @@ use Rattle.meaning.specs.Label
 use Rattle.meaning.specs.Tree.{content}
 use Rattle.meaning.specs.Field.{msds, ranges}
 use Rattle.meaning.specs.Array.{elementTrees}
-use Rattle.meaning.specs.Theorems.Bound.{size-sid-le}
+use Rattle.meaning.specs.SidLaws.{size-sid-le}
 use Rattle.fields.specs.Shows.{sidWidth, sidNumber}
 use Rattle.fields.specs.ShowsLaws.{sid-shown}
 

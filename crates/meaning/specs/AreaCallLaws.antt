@@ -17,14 +17,13 @@ use Rattle.registry.specs.declared.Registry.{Registry}
 use Rattle.registry.specs.declared.Registry.the-variants.{Neighbor, Prefix, RouterCapability, Binding, Srv6Sid, Unregistered}
 use Rattle.registry.specs.declared.Found.{Found}
 use Rattle.registry.specs.declared.Found.the-variants.{Known, Unknown}
-use Rattle.calls.specs.Limits.{lastRegistry}
 use Rattle.tape.specs.Tape.{used, room, headed, load, store}
 use Rattle.tape.specs.TapeLaws.{length-store}
 use Rattle.tape.specs.HeaderLaws.{headed-in-order}
 use Rattle.tape.specs.Forest.{Forest, size, flat}
 use Rattle.tape.specs.Laid.{Laid}
 use Rattle.tape.specs.LaidLaws.{laid-length, laid-load, laid-other}
-use Rattle.calls.specs.WellNestedLaws.{load-with-used, used-with-used}
+use Rattle.tape.specs.LoadLaws.{load-with-used, used-with-used}
 use Rattle.meaning.specs.Frame.{covered}
 use Rattle.meaning.specs.Value.{Walk}
 use Rattle.meaning.specs.AreaCall.{longest, furthest, appended, shown, fitted, callIn, areaCall}
@@ -78,7 +77,7 @@ module _ (octets : ℕ) (trees : Forest) (t : List ℕ) where
 -- callIn, case by case
 
 -- a registry's number is small
-pub number-low : (registry : Registry) → numberOf registry ≤ lastRegistry
+pub number-low : (registry : Registry) → numberOf registry ≤ 5
 number-low Neighbor = omega arith
 number-low Prefix = omega arith
 number-low RouterCapability = omega arith
@@ -154,7 +153,7 @@ module _ (P : After → Type 0) (shows : Walk) (area : List ℕ) (base : ℕ) (t
 
 -- a call that is done: which registry it was, that no refusal holds, and what it gave and left
 pub record Done (shows : Walk) (registry : ℕ) (area : List ℕ) (base : ℕ) (t : List ℕ) : Type 0 where
-  pub known : registry ≤ lastRegistry
+  pub known : registry ≤ 5
   pub short : length area ≤ 65535
   pub near : base + length area ≤ 4294967295
   pub good : headed t ≡ true

@@ -23,7 +23,6 @@ use Rattle.meaning.specs.Examples.RustCases.{rustCases, rustTypes}
 pub mod Example
 pub mod Cases
 pub mod RustCases
-pub mod TwoAreas
 
 -- what the definitions give is what the examples say
 abbrev pub Hold : List Case → Type 0

@@ -19,6 +19,4 @@ pub mod Area
 pub mod AreaLaws
 pub mod AreaCall
 pub mod AreaCallLaws
-pub mod Answers
-pub mod Theorems
 pub mod Examples

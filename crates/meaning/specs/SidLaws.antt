@@ -1,18 +1,31 @@
 -- A SID, case by case.
 use mathlib.Core.Path.{_≡_}
+use mathlib.Core.Bool.{Bool, true, false, cond}
 use mathlib.Core.List.{List}
 use Prim.Native.Nat.{ℕ, _+_, _%_, _≤_, _<_}
 use native.Mathlib.Omega.{arith}
 use borrow.Author.Tests.{le-leb, lt-leb}
+use lib.Dec.{leb}
 use lib.ListN.{length}
 use Rattle.octets.specs.BigEndian.{bigEndian}
-use Rattle.tape.specs.Forest.{none}
+use Rattle.tape.specs.Forest.{none, size}
 use Rattle.meaning.specs.Label.{Label}
 use Rattle.meaning.specs.Shape.{u32}
 use Rattle.meaning.specs.Tree.{one}
 use Rattle.meaning.specs.Sid.{sidTrees, sidEnd}
 
 module _ (label : Label) (registry : ℕ) (v : List ℕ) (base at : ℕ) where
+  -- one record at most
+  pub size-sid-le : size (sidTrees label registry v base at) ≤ 1
+  unfolding sidTrees
+  size-sid-le = go (leb (at + 4) (length v)) (leb (at + 3) (length v))
+    where
+      go : (four three : Bool)
+          → size (cond four (one label u32 registry (base + at) (base + at + 4) (bigEndian v at 4)) (cond three (one label u32 registry (base + at) (base + at + 3) (bigEndian v at 3 % 1048576)) none)) ≤ 1
+      go true three = omega arith
+      go false true = omega arith
+      go false false = omega arith
+
   -- 4 octets or more are left
   pub sid-four : at + 4 ≤ length v → sidTrees label registry v base at ≡ one label u32 registry (base + at) (base + at + 4) (bigEndian v at 4)
   unfolding sidTrees

@@ -1,1 +1,1 @@
-// What an area of sub-TLVs means: definitions and theorems, in specs/. No code.
+// What an area of sub-TLVs means: definitions, their laws and examples, in specs/. No code.

@@ -6,8 +6,8 @@ use native.Mathlib.Omega.{arith}
 use lib.ListN.{length}
 use Rattle.meaning.specs.Table.{usual}
 use Rattle.meaning.specs.Area.{walked, pushed}
-use Rattle.meaning.specs.Theorems.Bound.{needed-walked, needed-pushed}
-use Rattle.meaning.specs.Theorems.PlanLaws.{usual-sparing}
+use Rattle.theorems.specs.Bound.{needed-walked, needed-pushed}
+use Rattle.theorems.specs.PlanLaws.{usual-sparing}
 use Rattle.outcome.specs.Call.{Gives}
 use Rattle.tape.specs.Tape.{used, withUsed}
 use Rattle.tape.specs.Forest.{Forest, size}

@@ -7,10 +7,10 @@ use native.Mathlib.Nat.{zero-add, add-zero, add-suc, suc-add}
 use native.Mathlib.Numerals.{add-one}
 use native.Mathlib.Omega.{arith}
 use lib.ListN.{length, getD, set, length-set}
-use lib.Seq.{sets, getD-set-same}
+use lib.Seq.{sets, getD-set-same, getD-set-other}
 use borrow.Author.Tests.{le-leb}
 use Rattle.tape.specs.Record.{words}
-use Rattle.tape.specs.Tape.{recordAt, load, putAt, store}
+use Rattle.tape.specs.Tape.{used, withUsed, recordAt, load, putAt, store}
 use Rattle.tape.specs.TapeLaws.{length-putAt, getD-sets, getD-store}
 use Rattle.tape.specs.declared.Record.{Record}
 
@@ -98,3 +98,11 @@ load-store (r ∷ rs) t at inside =
 -- the records before those that were stored
 pub load-before : (n : ℕ) (rs : List Record) (t : List ℕ) (at i : ℕ) → i + n ≤ at → load (store t at rs) i n ≡ load t i n
 load-before n rs t at i before = load-same n (store t at rs) t i (λ k from below. record-store rs t at k (inl (omega arith)))
+
+-- a count of used records is no part of a record
+pub load-with-used : (t : List ℕ) (count at n : ℕ) → load (withUsed count t) at n ≡ load t at n
+load-with-used t count at n = load-same n (withUsed count t) t at (λ i from below. record-same (withUsed count t) t i (λ k small. getD-set-other t 0 (4 + 6 * i + k) count 0 (omega arith)))
+
+-- and it is the count
+pub used-with-used : (t : List ℕ) (count : ℕ) → 4 ≤ length t → used (withUsed count t) ≡ count
+used-with-used t count long = getD-set-same t 0 count 0 (omega arith)

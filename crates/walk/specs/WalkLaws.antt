@@ -24,7 +24,7 @@ use Rattle.meaning.specs.Table.{usual}
 use Rattle.meaning.specs.Value.{pushBy}
 use Rattle.meaning.specs.Area.{entryTrees, walkTrees, walked, pushed}
 use Rattle.meaning.specs.AreaLaws.{walk-shows}
-use Rattle.meaning.specs.Theorems.TheCalls.{walk-again}
+use Rattle.theorems.specs.TheCalls.{walk-again}
 use Rattle.fields.specs.Shows.{Shows, arrayBy}
 use Rattle.fields.specs.Cutting.{CutOff, cutting-end}
 use Rattle.fields.specs.declared.Shown.{Shown}

@@ -10,19 +10,19 @@ use Rattle.tape.specs.Record.{moved}
 use Rattle.tape.specs.Tape.{used, load}
 use Rattle.tape.specs.Forest.{Forest, size, flat}
 use Rattle.tape.specs.ForestLaws.{flat-moved}
 use Rattle.meaning.specs.Cut.{total, each}
 use Rattle.meaning.specs.Frame.{covered, remainder}
 use Rattle.meaning.specs.Field.{Plan}
 use Rattle.meaning.specs.Table.{usual}
 use Rattle.meaning.specs.Tree.{raw}
 use Rattle.meaning.specs.Value.{Walk}
 use Rattle.meaning.specs.Area.{entryTrees, innerWalk}
 use Rattle.meaning.specs.AreaCall.{appended, areaCall, walkCall, pushCall}
 use Rattle.meaning.specs.AreaCallLaws.{appended-load, call-done}
-use Rattle.meaning.specs.Theorems.FormLaws.{same-frame}
-use Rattle.meaning.specs.Theorems.Entries.{Ending, leave, show, called, beside, Holds, before, own, after, afterAt, endAt, EntryByEntry}
-use Rattle.meaning.specs.Theorems.EntriesLaws.{entry-by-entry}
-use Rattle.meaning.specs.Theorems.OneEntry.{Two, OneEntry}
+use Rattle.theorems.specs.FormLaws.{same-frame}
+use Rattle.theorems.specs.Entries.{Ending, leave, show, called, beside, Holds, before, own, after, afterAt, endAt, EntryByEntry}
+use Rattle.theorems.specs.EntriesLaws.{entry-by-entry}
+use Rattle.theorems.specs.OneEntry.{Two, OneEntry}
 
 -- a run that was accepted
 

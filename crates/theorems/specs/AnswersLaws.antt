@@ -26,10 +26,10 @@ use Rattle.tape.specs.declared.Record.{Record}
 use Rattle.calls.specs.Calls.{cleared, clearCall, endBy, cutBackCall, readable, noRecord, readCall}
 use Rattle.calls.specs.CallsLaws.{fails-cut}
 use Rattle.calls.specs.declared.Reading.{Reading}
 use Rattle.meaning.specs.Frame.{covered}
 use Rattle.meaning.specs.Value.{Walk}
-use Rattle.meaning.specs.Answers.{noRegistry, tooLong, tooFar, noTape, noHeader, tooMany, notThere, markPast, cutsThrough, unreadable, nameLonger, areaLines, nameLines, clearLines, cutBackLines, readLines}
+use Rattle.theorems.specs.Answers.{noRegistry, tooLong, tooFar, noTape, noHeader, tooMany, notThere, markPast, cutsThrough, unreadable, nameLonger, areaLines, nameLines, clearLines, cutBackLines, readLines}
 use Rattle.meaning.specs.AreaCall.{longest, furthest, shown, fitted, callIn, areaCall}
 
 -- the tests of the definitions fail where the lines hold
 

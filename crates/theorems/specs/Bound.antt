@@ -14,22 +14,22 @@ use Rattle.registry.specs.declared.Registry.the-variants.{Srv6Sid, Unregistered
 use Rattle.tape.specs.Both.{both}
 use Rattle.tape.specs.Forest.{Forest, none, size, _⧺_}
 use Rattle.tape.specs.ForestLaws.{⧺-none, size-⧺}
 use Rattle.meaning.specs.Label
 use Rattle.meaning.specs.Label.{Label}
 use Rattle.meaning.specs.Cut.{Measure, pieces, total, each}
 use Rattle.meaning.specs.CutLaws.{pieces-ind, total-le}
 use Rattle.meaning.specs.Frame.{entryLength, entries, covered, remainder, rangeLength}
 use Rattle.meaning.specs.FrameLaws.{whole-fits, whole-is, entry-fits, range-fits, range-eight, covered-le, length-remainder}
 use Rattle.meaning.specs.Field.{Span, from, first, Element, numbers, msds, ranges, Field, part, flag, sid, array, tail, push, Plan}
 use Rattle.meaning.specs.Tree.{raw}
 use Rattle.meaning.specs.Sid.{sidTrees, sidEnd}
-use Rattle.meaning.specs.SidLaws.{sid-four-end, sid-three-end}
+use Rattle.meaning.specs.SidLaws.{size-sid-le, sid-four-end, sid-three-end}
 use Rattle.meaning.specs.Array.{octetsIn, startOf, elementLength, elementTrees, arrayOf}
 use Rattle.meaning.specs.Tail.{lengthAt, innerFits, inner}
 use Rattle.meaning.specs.Value.{fieldEnd, taken, Walk, pushBy, fieldTrees, fieldsTrees, valueTrees}
 use Rattle.meaning.specs.Area.{entryTrees, walkTrees, noWalk, innerWalk, walked, pushed}
-use Rattle.meaning.specs.Theorems.Closed.{either}
-use Rattle.meaning.specs.Theorems.Plan.{isPlain, need, areSparing, Spare, Sparing}
+use Rattle.theorems.specs.Closed.{either}
+use Rattle.theorems.specs.Plan.{isPlain, need, areSparing, Spare, Sparing}
 
 -- pieces
 
@@ -46,11 +46,6 @@ size-raw-le : (registry at : ℕ) (xs : List ℕ) → size (raw registry at xs) 
 unfolding raw
 size-raw-le registry at [] = omega arith
 size-raw-le registry at (x ∷ xs) = omega arith
-
-pub size-sid-le : (label : Label) (registry : ℕ) (v : List ℕ) (base at : ℕ) → size (sidTrees label registry v base at) ≤ 1
-unfolding sidTrees
-size-sid-le label registry v base at =
-    either (λ (f : Forest). size f ≤ 1) (leb (at + 4) (length v)) _ _ (omega arith) (either (λ (f : Forest). size f ≤ 1) (leb (at + 3) (length v)) _ none (omega arith) (omega arith))
 
 -- a push, where the walk shows at most 7 records for 3 octets covered, beside its array
 push-bound : (walk : Walk) (registry : ℕ) (area : List ℕ) (base : ℕ) → 3 * size (walk registry area base) ≤ 3 + 7 * covered area → 3 * size (pushBy walk registry area base) ≤ 3 + 7 * length area

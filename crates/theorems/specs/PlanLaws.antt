@@ -11,9 +11,9 @@ use Rattle.registry.specs.Registry.{numberOf, isNested}
 use Rattle.registry.specs.declared.Registry.{Registry}
 use Rattle.registry.specs.declared.Registry.the-variants.{Neighbor, Prefix, RouterCapability, Binding, Srv6Sid, Unregistered}
 use Rattle.tape.specs.Both.{both}
 use Rattle.meaning.specs.Field.{Field, Row, row}
 use Rattle.meaning.specs.Table.{table, fieldsOf, usual}
-use Rattle.meaning.specs.Theorems.Plan.{isInner, isPlain, allPlain, Every, Flat, areFlat, need, Fitting, areInside, Spare, Sparing, haveFew, rowsPass}
+use Rattle.theorems.specs.Plan.{isInner, isPlain, allPlain, Every, Flat, areFlat, need, Fitting, areInside, Spare, Sparing, haveFew, rowsPass}
 
 -- the registries of areas inside a value are those of the nested level
 pub inner-nested : (registry : Registry) → isInner (numberOf registry) ≡ isNested registry

@@ -12,23 +12,23 @@ use Rattle.registry.specs.Registry.{numberOf}
 use Rattle.registry.specs.declared.Registry.the-variants.{Srv6Sid, Unregistered}
 use Rattle.calls.specs.Limits.{lastRegistry}
 use Rattle.tape.specs.Forest.{Forest, none}
 use Rattle.meaning.specs.Label
 use Rattle.meaning.specs.Label.{Label}
 use Rattle.meaning.specs.Shape.{Shape, u8, u32, ipv6, bytes, Container, array as arrayShape, object, hasNumber}
 use Rattle.meaning.specs.Cut.{total, each}
 use Rattle.meaning.specs.Frame.{entries, covered, remainder}
 use Rattle.meaning.specs.Field.{Element, numbers, msds, ranges, Field, part, flag, sid, array, tail, push, Plan}
 use Rattle.meaning.specs.Tree.{one, over, raw, numberIn}
 use Rattle.meaning.specs.Sid.{sidTrees}
 use Rattle.meaning.specs.Array.{startOf, elementTrees, arrayOf}
 use Rattle.meaning.specs.Tail.{lengthAt, innerFits, inner}
 use Rattle.meaning.specs.Value.{Walk, pushBy, fieldTrees, valueTrees}
 use Rattle.meaning.specs.Area.{entryTrees, walkTrees, noWalk, innerWalk, walked, pushed}
-use Rattle.meaning.specs.Theorems.Closed.{either, push-closed, value-closed}
-use Rattle.meaning.specs.Theorems.Sound.{Sound}
-use Rattle.meaning.specs.Theorems.SoundLaws.{fine-leaf, fine-node, sound-none, sound-⧺, sound-closed, sound-deeper, sound-each}
-use Rattle.meaning.specs.Theorems.Plan.{isInner, isPlain, Every, Flat}
-use Rattle.meaning.specs.Theorems.PlanLaws.{every, every-plain}
+use Rattle.theorems.specs.Closed.{either, push-closed, value-closed}
+use Rattle.theorems.specs.Sound.{Sound}
+use Rattle.theorems.specs.SoundLaws.{fine-leaf, fine-node, sound-none, sound-⧺, sound-closed, sound-deeper, sound-each}
+use Rattle.theorems.specs.Plan.{isInner, isPlain, Every, Flat}
+use Rattle.theorems.specs.PlanLaws.{every, every-plain}
 
 -- records
 

@@ -10,15 +10,15 @@ use Rattle.tape.specs.Tape.{used, room, headed, withUsed, store}
 use Rattle.tape.specs.Forest.{Forest, size, flat}
 use Rattle.calls.specs.Nest.{nestTest}
 use Rattle.calls.specs.WellNestedLaws.{yes-nested, nested-yes, nested-laid}
 use Rattle.meaning.specs.Table.{usual}
 use Rattle.meaning.specs.Value.{Walk}
 use Rattle.meaning.specs.Area.{walked, pushed}
 use Rattle.meaning.specs.AreaCall.{appended, areaCall, walkCall, pushCall}
 use Rattle.meaning.specs.AreaCallLaws.{laid, inside, number-low, call-cases}
-use Rattle.meaning.specs.Theorems.PlanLaws.{usual-flat}
-use Rattle.meaning.specs.Theorems.Sound.{Sound}
-use Rattle.meaning.specs.Theorems.SoundLaws.{sound-depth, sound-formed}
-use Rattle.meaning.specs.Theorems.SoundWalk.{sound-walked, sound-pushed}
+use Rattle.theorems.specs.PlanLaws.{usual-flat}
+use Rattle.theorems.specs.Sound.{Sound}
+use Rattle.theorems.specs.SoundLaws.{sound-depth, sound-formed}
+use Rattle.theorems.specs.SoundWalk.{sound-walked, sound-pushed}
 
 -- trees for which there is room, and that are sound, leave trees where there were trees
 appended-nests : (t : List ℕ) (trees : Forest) (good : headed t ≡ true) (fits : size trees ≤ room t - used t) → Sound deepest trees → nestTest t ≡ true → nestTest (appended trees t) ≡ true

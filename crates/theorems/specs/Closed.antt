@@ -4,11 +4,11 @@ use mathlib.Core.List.{List, [], _∷_}
 use Prim.Native.Nat.{ℕ, _+_}
 use lib.ListN.{drop}
 use Rattle.tape.specs.Forest.{Forest, none, _⧺_}
 use Rattle.meaning.specs.Frame.{covered, remainder}
 use Rattle.meaning.specs.Field.{Field}
 use Rattle.meaning.specs.Tree.{raw, value}
 use Rattle.meaning.specs.Value.{taken, Walk, pushBy, fieldTrees, fieldsTrees, valueTrees}
-use Rattle.meaning.specs.Theorems.Plan.{Every}
+use Rattle.theorems.specs.Plan.{Every}
 
 pub record Closed (P : Forest → Type 0) : Type 0 where
   pub nothing : P none

@@ -1,4 +1,4 @@
--- What holds of the definitions.
+-- What holds of the definitions and of the calls.
 
 -- demand 3: one entry cannot speak for another
 pub mod Form
@@ -7,6 +7,7 @@ pub mod Entries
 pub mod EntriesLaws
 pub mod OneEntry
 pub mod OneEntryLaws
+pub mod TwoAreas
 -- what is asked of a reading
 pub mod Plan
 pub mod PlanLaws
@@ -31,6 +32,7 @@ pub mod Unroll
 pub mod OldRecords
 pub mod OldRecordsLaws
 -- every call answers by the lines of the table
+pub mod Answers
 pub mod AnswersLaws
 -- the calls, by the table's reading
 pub mod TheCalls

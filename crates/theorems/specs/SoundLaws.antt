@@ -14,14 +14,14 @@ use Rattle.tape.specs.RecordLaws.{label-made, shape-made}
 use Rattle.calls.specs.Calls.{readable}
 use Rattle.tape.specs.Forest.{Forest, none, leaf, node, _⧺_, depth, Fits, Formed}
 use Rattle.tape.specs.declared.Content.{Content}
 use Rattle.meaning.specs.Label.{Label, number}
 use Rattle.meaning.specs.Shape.{Shape, Container, shapeNumber, containerNumber, hasNumber}
 use Rattle.meaning.specs.Label
 use Rattle.meaning.specs.Shape
 use Rattle.meaning.specs.Cut.{each}
 use Rattle.meaning.specs.Tree.{content}
-use Rattle.meaning.specs.Theorems.Closed.{Closed}
-use Rattle.meaning.specs.Theorems.Sound.{Fine, Sound}
+use Rattle.theorems.specs.Closed.{Closed}
+use Rattle.theorems.specs.Sound.{Fine, Sound}
 
 -- Fine
 

@@ -12,20 +12,20 @@ use Rattle.tape.specs.LoadLaws.{length-load, load-append}
 use Rattle.tape.specs.Forest.{Forest, none, node, size, _⧺_, flat}
 use Rattle.tape.specs.ForestLaws.{⧺-none, size-⧺, length-flat, flat-⧺}
 use Rattle.tape.specs.declared.Content.{Content}
 use Rattle.meaning.specs.Label
 use Rattle.meaning.specs.Cut.{total, each}
 use Rattle.meaning.specs.CutLaws.{each-++}
 use Rattle.meaning.specs.Frame.{entries, covered}
 use Rattle.meaning.specs.FrameLaws.{entries-none}
 use Rattle.meaning.specs.Field.{Plan}
 use Rattle.meaning.specs.Label.{number}
 use Rattle.meaning.specs.Shape.{array, containerNumber}
 use Rattle.meaning.specs.Tree.{content, over}
 use Rattle.meaning.specs.Array.{arrayOf}
 use Rattle.meaning.specs.Value.{pushBy}
 use Rattle.meaning.specs.Area.{entryTrees, innerWalk, walked, pushed}
 use Rattle.meaning.specs.AreaLaws.{walk-shows}
-use Rattle.meaning.specs.Theorems.Entries.{Ending, leave, show, called, beside, Holds, before, own, after, endAt, EntryByEntry}
+use Rattle.theorems.specs.Entries.{Ending, leave, show, called, beside, Holds, before, own, after, endAt, EntryByEntry}
 
 -- Holds
 

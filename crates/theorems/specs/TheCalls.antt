@@ -10,19 +10,19 @@ use Rattle.tape.specs.Forest.{size}
 use Rattle.calls.specs.Calls.{readCall}
 use Rattle.registry.specs.Registry.{numberOf}
 use Rattle.calls.specs.Limits.{lastRegistry}
 use Rattle.meaning.specs.Table.{usual}
 use Rattle.meaning.specs.Value.{Walk}
 use Rattle.meaning.specs.Area.{walkTrees, walked, pushed}
 use Rattle.meaning.specs.AreaCall.{appended, areaCall, walkCall, pushCall}
 use Rattle.meaning.specs.AreaCallLaws.{appended-load, call-cases, call-done}
-use Rattle.meaning.specs.Theorems.PlanLaws.{usual-flat, usual-fitting, usual-sparing}
-use Rattle.meaning.specs.Theorems.Sound.{Sound}
-use Rattle.meaning.specs.Theorems.SoundWalk.{sound-walked, sound-pushed}
-use Rattle.meaning.specs.Theorems.EachRecord.{EachRecord, each-record-at}
-use Rattle.meaning.specs.Theorems.Inside.{Within, inside-walked, inside-pushed, Inside, within-each}
-use Rattle.meaning.specs.Theorems.Bound.{needed-walked, needed-pushed}
-use Rattle.meaning.specs.Theorems.Unroll.{walked-again}
-use Rattle.meaning.specs.Theorems.ReadBack.{read-back}
+use Rattle.theorems.specs.PlanLaws.{usual-flat, usual-fitting, usual-sparing}
+use Rattle.theorems.specs.Sound.{Sound}
+use Rattle.theorems.specs.SoundWalk.{sound-walked, sound-pushed}
+use Rattle.theorems.specs.EachRecord.{EachRecord, each-record-at}
+use Rattle.theorems.specs.Inside.{Within, inside-walked, inside-pushed, Inside, within-each}
+use Rattle.theorems.specs.Bound.{needed-walked, needed-pushed}
+use Rattle.theorems.specs.Unroll.{walked-again}
+use Rattle.theorems.specs.ReadBack.{read-back}
 
 -- needed
 

@@ -18,11 +18,11 @@ use Rattle.registry.specs.declared.Found.{Found}
 use Rattle.registry.specs.declared.Found.the-variants.{Known, Unknown}
 use Rattle.tape.specs.Tape.{used, room, headed, load}
 use Rattle.tape.specs.Forest.{Forest, size, flat}
 use Rattle.meaning.specs.Frame.{covered}
 use Rattle.meaning.specs.Value.{Walk}
 use Rattle.meaning.specs.AreaCall.{longest, furthest, appended, shown, fitted, callIn, areaCall}
 use Rattle.meaning.specs.AreaCallLaws.{appended-used, appended-load, appended-other, length-appended}
-use Rattle.meaning.specs.Theorems.OldRecords.{Alike, Untouched, Unmoved}
+use Rattle.theorems.specs.OldRecords.{Alike, Untouched, Unmoved}
 
 -- what is left as it was
 kept : {t : List ℕ} {o : Outcome} → Untouched t (record { outcome = o; lent = t })

@@ -10,11 +10,11 @@ use borrow.Author.Tests.{leb-true}
 use lib.Dec.{leb}
 use lib.ListN.{length, getD, take, drop, length-append, length-drop, take-append-drop, List·getD-append}
 use lib.Seq.{length-take-le, getD-take, getD-drop, ext-getD, getD-append-add}
 use Rattle.meaning.specs.Cut.{total}
 use Rattle.meaning.specs.CutLaws.{pieces-stop, pieces-step, total-++}
 use Rattle.meaning.specs.Frame.{entryLength, entries, covered, remainder}
 use Rattle.meaning.specs.FrameLaws.{passed, entry, entry-fits, entries-none, covered-none, entries-++, remainder-++, entries-entry, covered-entry, remainder-entry}
-use Rattle.meaning.specs.Theorems.Form.{Differ, SameFrame}
+use Rattle.theorems.specs.Form.{Differ, SameFrame}
 
 -- an area with the entry of type t and value v between pre and post
 abbrev with : List ℕ → List ℕ → ℕ → List ℕ → List ℕ

@@ -11,18 +11,18 @@ use Rattle.octets.specs.BigEndian.{bigEndian}
 use Rattle.registry.specs.Registry.{registryOf}
 use Rattle.tape.specs.Tape.{headed, putAt, store}
 use Rattle.tape.specs.Forest.{size, _⧺_, flat}
 use Rattle.meaning.specs.Cut.{piecesAfter, pieces, total, each}
 use Rattle.meaning.specs.Frame.{entryLength, entries, covered, remainder, rangeLength}
 use Rattle.meaning.specs.Table.{table, fieldsOf, usual}
 use Rattle.meaning.specs.Tree.{raw}
 use Rattle.meaning.specs.Sid.{sidTrees, sidEnd}
 use Rattle.meaning.specs.Array.{elementTrees, arrayOf}
 use Rattle.meaning.specs.Value.{fieldEnd, taken, pushBy, fieldTrees, fieldsTrees, valueTrees}
 use Rattle.meaning.specs.Area.{entryTrees, walkTrees, innerWalk, walked, pushed}
 use Rattle.meaning.specs.AreaCall.{appended, fitted, callIn, areaCall}
-use Rattle.meaning.specs.Theorems.Form.{Differ}
-use Rattle.meaning.specs.Theorems.Entries.{Ending, leave, show, called, own}
-use Rattle.meaning.specs.Theorems.OneEntry.{Two}
+use Rattle.theorems.specs.Form.{Differ}
+use Rattle.theorems.specs.Entries.{Ending, leave, show, called, own}
+use Rattle.theorems.specs.OneEntry.{Two}
 
 -- the octets v or v′, which are as many, between the same others
 differ-inside : (xs v v′ ys : List ℕ) → length v ≡ length v′ → Differ (xs ++ (v ++ ys)) (xs ++ (v′ ++ ys)) (length xs) (length v)

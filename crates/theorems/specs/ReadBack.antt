@@ -11,11 +11,11 @@ use Rattle.calls.specs.Calls.{readable, readCall}
 use Rattle.calls.specs.CallsLaws.{read-0}
 use Rattle.calls.specs.WellNestedLaws.{in-order-laid}
 use Rattle.tape.specs.declared.Record.{Record}
 use Rattle.meaning.specs.AreaCall.{appended}
 use Rattle.meaning.specs.AreaCallLaws.{laid, inside, appended-used, appended-load}
-use Rattle.meaning.specs.Theorems.EachRecord.{EachRecord, each-record-++, each-record-at}
-use Rattle.meaning.specs.Theorems.Sound.{Sound}
-use Rattle.meaning.specs.Theorems.SoundLaws.{fine-readable}
+use Rattle.theorems.specs.EachRecord.{EachRecord, each-record-++, each-record-at}
+use Rattle.theorems.specs.Sound.{Sound}
+use Rattle.theorems.specs.SoundLaws.{fine-readable}
 
 -- a record that can be read
 abbrev Readable : Record → Type 0

@@ -12,26 +12,26 @@ use Rattle.registry.specs.Registry.{numberOf}
 use Rattle.registry.specs.declared.Registry.the-variants.{Srv6Sid, Unregistered}
 use Rattle.tape.specs.Forest.{Forest, none, leaf, node, size, _⧺_, flat}
 use Rattle.tape.specs.declared.Record.{Record}
 use Rattle.meaning.specs.Label
 use Rattle.meaning.specs.Label.{Label}
 use Rattle.meaning.specs.Shape.{Shape, u8, ipv6, bytes}
 use Rattle.meaning.specs.Cut.{Measure, pieces, total, each}
 use Rattle.meaning.specs.CutLaws.{pieces-ind, total-le}
 use Rattle.meaning.specs.Frame.{entryLength, entries, covered, remainder, rangeLength}
 use Rattle.meaning.specs.FrameLaws.{whole-is, entry-fits, range-eight}
 use Rattle.meaning.specs.Field.{Element, numbers, msds, ranges, Field, part, flag, sid, array, tail, push, Plan}
 use Rattle.meaning.specs.Tree.{one, raw}
 use Rattle.meaning.specs.Sid.{sidTrees}
 use Rattle.meaning.specs.SidLaws.{sid-four, sid-three, sid-fewer}
 use Rattle.meaning.specs.Array.{octetsIn, startOf, elementLength, elements, elementTrees, arrayOf}
 use Rattle.meaning.specs.Tail.{lengthAt, innerFits, inner}
 use Rattle.meaning.specs.Value.{Walk, pushBy, fieldTrees, valueTrees}
 use Rattle.meaning.specs.Area.{entryTrees, walkTrees, noWalk, innerWalk, walked, pushed}
-use Rattle.meaning.specs.Theorems.Plan.{Every, need, Fitting}
-use Rattle.meaning.specs.Theorems.PlanLaws.{every-so}
-use Rattle.meaning.specs.Theorems.Closed.{Closed, push-closed, value-closed}
-use Rattle.meaning.specs.Theorems.EachRecord.{EachRecord, each-record-++}
-use Rattle.meaning.specs.Theorems.Bound.{element-fits, entry-least, span-inside}
+use Rattle.theorems.specs.Plan.{Every, need, Fitting}
+use Rattle.theorems.specs.PlanLaws.{every-so}
+use Rattle.theorems.specs.Closed.{Closed, push-closed, value-closed}
+use Rattle.theorems.specs.EachRecord.{EachRecord, each-record-++}
+use Rattle.theorems.specs.Bound.{element-fits, entry-least, span-inside}
 
 -- every record is inside the octets from lo up to hi, and inside its container
 unfoldable pub Within : ℕ → ℕ → Forest → Type 0

@@ -6,15 +6,15 @@ use Prim.Native.Nat.{ℕ, _+_}
 use lib.ListN.{getD, drop}
 use Rattle.registry.specs.Registry.{numberOf}
 use Rattle.registry.specs.declared.Registry.the-variants.{Srv6Sid, Unregistered}
 use Rattle.meaning.specs.CutLaws.{each-same}
 use Rattle.meaning.specs.Frame.{entries}
 use Rattle.meaning.specs.Field.{Field, part, flag, sid, array, tail, push, Plan}
 use Rattle.meaning.specs.Array.{arrayOf}
 use Rattle.meaning.specs.Tail.{lengthAt, inner}
 use Rattle.meaning.specs.Value.{Walk, pushBy, fieldTrees, fieldsTrees, valueTrees}
 use Rattle.meaning.specs.Area.{entryTrees, walkTrees, noWalk, innerWalk, walked}
-use Rattle.meaning.specs.Theorems.Plan.{isInner, isPlain, Every, Flat}
-use Rattle.meaning.specs.Theorems.PlanLaws.{every, every-plain}
+use Rattle.theorems.specs.Plan.{isInner, isPlain, Every, Flat}
+use Rattle.theorems.specs.PlanLaws.{every, every-plain}
 
 -- two walks of areas inside values
 module _ (walk walk′ : Walk) (registry : ℕ) (v : List ℕ) (base : ℕ) where

@@ -8,12 +8,12 @@ use Rattle.outcome.specs.declared.Outcome.{Outcome}
 use Rattle.tape.specs.Record.{moved}
 use Rattle.tape.specs.Tape.{used, load}
 use Rattle.tape.specs.Forest.{size}
 use Rattle.meaning.specs.Cut.{total}
 use Rattle.meaning.specs.Frame.{entries}
 use Rattle.meaning.specs.Field.{Plan}
 use Rattle.meaning.specs.AreaCall.{areaCall}
-use Rattle.meaning.specs.Theorems.Form.{Differ, SameFrame}
-use Rattle.meaning.specs.Theorems.Entries.{Ending, called, beside, before, own, after, afterAt, endAt, EntryByEntry}
+use Rattle.theorems.specs.Form.{Differ, SameFrame}
+use Rattle.theorems.specs.Entries.{Ending, called, beside, before, own, after, afterAt, endAt, EntryByEntry}
 
 -- two runs of the same call, with the same registry and base: given the areas a and a′ and the tapes t and t′, they gave o and o′ and left x and x′
 module _ (e : Ending) (plan : Plan) (registry base : ℕ) (a a′ t t′ : List ℕ) (o o′ : Outcome) (x x′ : List ℕ) (ps : List (List ℕ)) (q : List ℕ) (us : List (List ℕ)) where

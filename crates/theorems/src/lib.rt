@@ -1,0 +1,1 @@
+// What holds of the definitions and of the calls: theorems, in specs/. No code.
