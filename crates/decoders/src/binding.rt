@@ -1,8 +1,8 @@
 // Registry 3: sub-TLVs of a SID/label binding (TLVs 149 and 150).
-use crate::Decoded;
-use crate::Taken;
 use fields::Source;
 use fields::sid::sid;
+use readings::Decoded;
+use readings::Taken;
 use registry::registries::Binding;
 use tape::Octet;
 use tape::Position;
@@ -11,7 +11,7 @@ ghost use mathlib.Core.Path.{_≡_};
 ghost use Prim.Native.Nat.{_+_, _<_, _^_};
 ghost use lib.ListN.{length};
 ghost use Rattle.meaning.specs.Table.{usual};
-ghost use Rattle.decoders.specs.Reading.{Reads, readingOf, reading};
+ghost use Rattle.readings.specs.Reading.{Reads, readingOf, reading};
 
 // SID/Label (RFC 8667, sections 2.3 and 2.4.5).
 fn sid_label(value: &[u8], source: Source, tape: &mut [u64], position: Position) -> Decoded

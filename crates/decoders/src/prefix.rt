@@ -1,13 +1,13 @@
 // Registry 1: sub-TLVs of a prefix (TLVs 27, 135, 235, 236 and 237).
-use crate::Decoded;
-use crate::Taken;
-use crate::rows::ipv4;
-use crate::rows::ipv6;
-use crate::rows::number_array;
 use fields::Source;
 use fields::part::flag;
 use fields::part::number8;
 use fields::part::number16;
+use readings::Decoded;
+use readings::Taken;
+use readings::rows::ipv4;
+use readings::rows::ipv6;
+use readings::rows::number_array;
 use registry::registries::Prefix;
 use tape::Octet;
 use tape::Position;
@@ -20,8 +20,8 @@ ghost use lib.ListN.{length};
 ghost use Rattle.octets.specs.BigEndian.{isWidth};
 ghost use Rattle.tape.specs.Laid.{Laid};
 ghost use Rattle.meaning.specs.Table.{usual};
-ghost use Rattle.decoders.specs.Reading.{Reads, readingOf, reading};
-ghost use Rattle.decoders.specs.Rows.{numberArray, endHead};
+ghost use Rattle.readings.specs.Reading.{Reads, readingOf, reading};
+ghost use Rattle.readings.specs.Rows.{numberArray, endHead};
 
 // Administrative tags of one width (RFC 5130, sections 3.1 and 3.2).
 fn tags(

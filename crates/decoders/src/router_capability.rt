@@ -1,13 +1,13 @@
 // Registry 2: sub-TLVs of a router capability (TLV 242).
-use crate::Decoded;
-use crate::Taken;
-use crate::rows::ipv4;
-use crate::rows::ipv6;
-use crate::rows::number_array;
 use fields::Source;
 use fields::array::msds;
 use fields::array::ranges;
 use fields::part::number8;
+use readings::Decoded;
+use readings::Taken;
+use readings::rows::ipv4;
+use readings::rows::ipv6;
+use readings::rows::number_array;
 use registry::registries::RouterCapability;
 use tape::Octet;
 use tape::Position;
@@ -17,8 +17,8 @@ ghost use mathlib.Core.Path.{_≡_};
 ghost use Prim.Native.Nat.{_+_, _<_, _^_};
 ghost use lib.ListN.{length};
 ghost use Rattle.meaning.specs.Table.{usual};
-ghost use Rattle.decoders.specs.Reading.{Reads, readingOf, reading};
-ghost use Rattle.decoders.specs.Rows.{numberArray};
+ghost use Rattle.readings.specs.Reading.{Reads, readingOf, reading};
+ghost use Rattle.readings.specs.Rows.{numberArray};
 
 // SR-Capabilities and SR Local Block (RFC 8667, sections 3.1 and 3.3): Flags | ranges.
 fn flags_and_ranges(value: &[u8], source: Source, tape: &mut [u64], position: Position) -> Decoded

@@ -1,8 +1,8 @@
 // Registry 4: sub-sub-TLVs of an SRv6 SID.
-use crate::Decoded;
-use crate::Taken;
 use fields::Source;
 use fields::part::number8;
+use readings::Decoded;
+use readings::Taken;
 use registry::registries::Srv6Sid;
 use tape::Octet;
 use tape::Position;
@@ -10,7 +10,7 @@ use tape::label::Label;
 ghost use Prim.Native.Nat.{_+_, _<_, _^_};
 ghost use lib.ListN.{length};
 ghost use Rattle.meaning.specs.Table.{usual};
-ghost use Rattle.decoders.specs.Reading.{Reads, readingOf, reading};
+ghost use Rattle.readings.specs.Reading.{Reads, readingOf, reading};
 
 // SRv6 SID Structure (RFC 9352, section 9): LB Length | LN Length | Fun. Length | Arg. Length.
 fn sid_structure(value: &[u8], source: Source, tape: &mut [u64], position: Position) -> Decoded

@@ -13,8 +13,8 @@ use Rattle.tape.specs.LaidLaws.{laid-then, laid-container-of-two}
 use Rattle.meaning.specs.Tree.{content}
 use Rattle.meaning.specs.Table.{usual}
 use Rattle.meaning.specs.Area.{walked, entryTrees}
-use Rattle.decoders.specs.Reading.{reading, Reads}
-use Rattle.decoders.specs.declared.Decoded.{Decoded}
+use Rattle.readings.specs.Reading.{reading, Reads}
+use Rattle.readings.specs.declared.Decoded.{Decoded}
 use Rattle.walk.specs.Rest.{restOf, Room}
 use Rattle.walk.specs.RestLaws.{value-is}
 

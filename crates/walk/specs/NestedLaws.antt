@@ -27,11 +27,11 @@ use Rattle.meaning.specs.ValueLaws.{tail-inner, Alone, Inner}
 use Rattle.meaning.specs.Area.{walked, pushed}
 use Rattle.fields.specs.Shows.{Shows}
 use Rattle.fields.specs.declared.Shown.{Shown}
-use Rattle.decoders.specs.Reading.{Reading, took, readingOf, Reads}
-use Rattle.decoders.specs.ReadingLaws.{reads-as, row-fields}
-use Rattle.decoders.specs.Rows.{octetsAt, forType, systemId, endXHead}
-use Rattle.decoders.specs.declared.Decoded.{Decoded}
-use Rattle.decoders.specs.declared.Taken.the-variants.{Octets}
+use Rattle.readings.specs.Reading.{Reading, took, readingOf, Reads}
+use Rattle.readings.specs.ReadingLaws.{reads-as, row-fields}
+use Rattle.readings.specs.Rows.{octetsAt, forType, systemId, endXHead}
+use Rattle.readings.specs.declared.Decoded.{Decoded}
+use Rattle.readings.specs.declared.Taken.the-variants.{Octets}
 use Rattle.walk.specs.Rest.{Room}
 
 -- the row of type k: a head, and then the field f

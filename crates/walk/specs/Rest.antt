@@ -4,8 +4,8 @@ use Prim.Native.Nat.{ℕ, _+_, _^_, _<_}
 use lib.ListN.{drop}
 use Rattle.tape.specs.Forest.{Forest, size}
 use Rattle.meaning.specs.Tree.{raw, value}
-use Rattle.decoders.specs.declared.Taken.{Taken}
-use Rattle.decoders.specs.declared.Taken.the-variants.{Octets, Nothing}
+use Rattle.readings.specs.declared.Taken.{Taken}
+use Rattle.readings.specs.declared.Taken.the-variants.{Octets, Nothing}
 
 -- the octets that are not taken, as `raw`; where nothing is taken, the whole value
 unfoldable pub restOf : ℕ → List ℕ → ℕ → Taken → Forest

@@ -11,7 +11,7 @@ use Rattle.meaning.specs.Field.{Field}
 use Rattle.meaning.specs.Table.{usual}
 use Rattle.meaning.specs.Value.{valueTrees}
 use Rattle.meaning.specs.Area.{walked}
-use Rattle.decoders.specs.Reading.{readingOf}
+use Rattle.readings.specs.Reading.{readingOf}
 use Rattle.walk.specs.Rest.{restOf}
 
 -- a value without fields

@@ -1,22 +1,22 @@
 // The walk of an area: a walk decodes an entry, and an entry walks again. The remaining octets fall.
-use decoders::Decoded;
-use decoders::Taken;
 use decoders::binding::binding;
-use decoders::neighbor::end_x_head;
-use decoders::neighbor::neighbor;
-use decoders::neighbor::system_id;
 use decoders::prefix::end_head;
 use decoders::prefix::prefix;
 use decoders::router_capability::router_capability;
-use decoders::rows::for_type;
-use decoders::rows::octet_and_sid;
-use decoders::rows::octet_label;
 use decoders::srv6_sid::srv6_sid;
 use fields::Shown;
 use fields::Source;
 use fields::array::container;
 use fields::part::number16;
 use fields::part::part;
+use neighbor::end_x_head;
+use neighbor::neighbor;
+use neighbor::system_id;
+use readings::Decoded;
+use readings::Taken;
+use readings::rows::for_type;
+use readings::rows::octet_and_sid;
+use readings::rows::octet_label;
 use registry::Registry;
 use registry::registries::Neighbor;
 use registry::registries::Prefix;
@@ -41,8 +41,8 @@ ghost use Rattle.meaning.specs.Table.{usual};
 ghost use Rattle.meaning.specs.Value.{fieldEnd, fieldTrees};
 ghost use Rattle.meaning.specs.Area.{entryTrees, walked, pushed};
 ghost use Rattle.fields.specs.Shows.{Shows};
-ghost use Rattle.decoders.specs.Reading.{Reads, took, reading};
-ghost use Rattle.decoders.specs.Rows.{octetsAt};
+ghost use Rattle.readings.specs.Reading.{Reads, took, reading};
+ghost use Rattle.readings.specs.Rows.{octetsAt};
 ghost use Rattle.walk.specs.Rest.{restOf, Room};
 
 // Lays the octets from `at` on as one `raw` record, or nothing where there are none.

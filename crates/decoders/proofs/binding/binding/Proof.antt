@@ -1,6 +1,6 @@
 -- Type by type, and all others.
 use Rattle.meaning.specs.Table.{table}
-use Rattle.decoders.specs.ReadingLaws.{of-type, of-unknown}
+use Rattle.readings.specs.ReadingLaws.{of-type, of-unknown}
 use borrow.Author.Needs.{needs}
 use Rattle.decoders.proofs.binding.binding.Statement.{statement}
 use Rattle.decoders.proofs.binding.binding.Tie as tie

@@ -8,9 +8,9 @@ use Rattle.meaning.specs.TableLaws.{leastIn, fieldsIn}
 use Rattle.meaning.specs.Label
 use Rattle.fields.specs.ShowsLaws.{shown-sid}
 use Rattle.meaning.specs.Value.{fieldEnd, fieldTrees, fieldsTrees, taken}
-use Rattle.decoders.specs.Reading.{readingOf}
-use Rattle.decoders.specs.ReadingLaws.{row-short, row-long}
-use Rattle.decoders.specs.declared.Taken.the-variants.{Octets}
+use Rattle.readings.specs.Reading.{readingOf}
+use Rattle.readings.specs.ReadingLaws.{row-short, row-long}
+use Rattle.readings.specs.declared.Taken.the-variants.{Octets}
 use borrow.Author.Needs.{needs}
 use Rattle.decoders.proofs.binding.sid_label.Statement.{statement}
 use Rattle.decoders.proofs.binding.sid_label.Tie as tie

@@ -7,9 +7,9 @@ use Rattle.meaning.specs.Field.{from}
 use Rattle.meaning.specs.Table.{table, fieldsOf, usual}
 use Rattle.meaning.specs.TableLaws.{leastIn, fieldsIn}
 use Rattle.meaning.specs.Value.{fieldEnd, fieldTrees, fieldsTrees, taken}
-use Rattle.decoders.specs.Reading.{Reading, given, readingOf}
-use Rattle.decoders.specs.ReadingLaws.{reads-as, of-type, of-unknown, row-given}
-use Rattle.decoders.specs.RowsLaws.{numbers-row}
+use Rattle.readings.specs.Reading.{Reading, given, readingOf}
+use Rattle.readings.specs.ReadingLaws.{reads-as, of-type, of-unknown, row-given}
+use Rattle.readings.specs.RowsLaws.{numbers-row}
 use borrow.Author.Needs.{needs}
 use Rattle.decoders.proofs.prefix.prefix.Statement.{statement}
 use Rattle.decoders.proofs.prefix.prefix.Tie as tie

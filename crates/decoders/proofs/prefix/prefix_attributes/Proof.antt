@@ -5,8 +5,8 @@ use Rattle.tape.specs.LaidLaws.{laid-then}
 use Rattle.meaning.specs.Table.{table, fieldsOf, usual}
 use Rattle.meaning.specs.TableLaws.{leastIn, fieldsIn}
 use Rattle.meaning.specs.Value.{fieldEnd, fieldTrees, fieldsTrees, taken}
-use Rattle.decoders.specs.Reading.{readingOf}
-use Rattle.decoders.specs.ReadingLaws.{row-short, row-long}
+use Rattle.readings.specs.Reading.{readingOf}
+use Rattle.readings.specs.ReadingLaws.{row-short, row-long}
 use borrow.Author.Needs.{needs}
 use Rattle.decoders.proofs.prefix.prefix_attributes.Statement.{statement}
 use Rattle.decoders.proofs.prefix.prefix_attributes.Tie as tie

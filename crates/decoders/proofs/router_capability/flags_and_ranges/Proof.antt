@@ -13,9 +13,9 @@ use Rattle.meaning.specs.Frame.{rangeLength}
 use Rattle.meaning.specs.FrameLaws.{range-fits}
 use Rattle.meaning.specs.PlaceLaws.{part-rest}
 use Rattle.meaning.specs.Value.{fieldEnd, fieldTrees, fieldsTrees, taken}
-use Rattle.decoders.specs.Reading.{readingOf}
-use Rattle.decoders.specs.ReadingLaws.{row-short, row-long}
-use Rattle.decoders.specs.declared.Taken.the-variants.{Octets}
+use Rattle.readings.specs.Reading.{readingOf}
+use Rattle.readings.specs.ReadingLaws.{row-short, row-long}
+use Rattle.readings.specs.declared.Taken.the-variants.{Octets}
 use borrow.Author.Needs.{needs}
 use Rattle.decoders.proofs.router_capability.flags_and_ranges.Statement.{statement}
 use Rattle.decoders.proofs.router_capability.flags_and_ranges.Tie as tie

@@ -5,9 +5,9 @@ use Rattle.meaning.specs.Label
 use Rattle.meaning.specs.Field.{from, msds}
 use Rattle.meaning.specs.Table.{table, fieldsOf, usual}
 use Rattle.meaning.specs.TableLaws.{leastIn, fieldsIn}
-use Rattle.decoders.specs.ReadingLaws.{reads-as, row-long}
-use Rattle.decoders.specs.RowsLaws.{array-row}
-use Rattle.decoders.specs.declared.Taken.the-variants.{Octets}
+use Rattle.readings.specs.ReadingLaws.{reads-as, row-long}
+use Rattle.readings.specs.RowsLaws.{array-row}
+use Rattle.readings.specs.declared.Taken.the-variants.{Octets}
 use borrow.Author.Needs.{needs}
 use Rattle.decoders.proofs.router_capability.node_msd.Statement.{statement}
 use Rattle.decoders.proofs.router_capability.node_msd.Tie as tie

@@ -1,6 +1,6 @@
 -- The one type, and all others.
 use Rattle.meaning.specs.Table.{table}
-use Rattle.decoders.specs.ReadingLaws.{of-type, of-unknown}
+use Rattle.readings.specs.ReadingLaws.{of-type, of-unknown}
 use borrow.Author.Needs.{needs}
 use Rattle.decoders.proofs.srv6_sid.srv6_sid.Statement.{statement}
 use Rattle.decoders.proofs.srv6_sid.srv6_sid.Tie as tie

@@ -3,8 +3,8 @@ use mathlib.Core.Path.{sym, _∙_}
 use native.Mathlib.Omega.{arith}
 use Rattle.meaning.specs.Table.{table}
 use Rattle.meaning.specs.AreaCallLaws.{number-low}
-use Rattle.decoders.specs.ReadingLaws.{of-unknown}
-use Rattle.decoders.specs.RowsLaws.{sid-type, other-type}
+use Rattle.readings.specs.ReadingLaws.{of-unknown}
+use Rattle.readings.specs.RowsLaws.{sid-type, other-type}
 use Prim.Native.Nat.{ℕ}
 use borrow.Author.Needs.{needs}
 use Rattle.walk.proofs.+decode+decode_neighbor+decode_prefix+decode_router_capability+entry+push+tail+walk.Proof.Measures.{decode-at, decode-neighbor-below, decode-prefix-below, decode-router-capability-below}
@@ -13,9 +13,9 @@ use Rattle.walk.proofs.decode.Reads as decode
 use Rattle.walk.proofs.decode_neighbor.Reads as decode-neighbor
 use Rattle.walk.proofs.decode_prefix.Reads as decode-prefix
 use Rattle.walk.proofs.decode_router_capability.Reads as decode-router-capability
-use Rattle.decoders.proofs.rows.octet_label.Reads as octet-label-reads
+use Rattle.readings.proofs.rows.octet_label.Reads as octet-label-reads
 use Rattle.registry.proofs.Registry.number.Reads as number-reads
-use Rattle.decoders.proofs.rows.octet_and_sid.Reads as octet-and-sid-reads
+use Rattle.readings.proofs.rows.octet_and_sid.Reads as octet-and-sid-reads
 use Rattle.decoders.proofs.binding.binding.Reads as binding-reads
 use Rattle.decoders.proofs.srv6_sid.srv6_sid.Reads as srv6-sid-reads
 

@@ -5,8 +5,8 @@ use Rattle.tape.specs.Forest.{_⧺_}
 use Rattle.tape.specs.ForestLaws.{size-⧺}
 use Rattle.tape.specs.LaidLaws.{laid-then}
 use Rattle.meaning.specs.Field.{tail}
-use Rattle.decoders.specs.ReadingLaws.{row-short}
-use Rattle.decoders.specs.Rows.{systemId, endXHead}
+use Rattle.readings.specs.ReadingLaws.{row-short}
+use Rattle.readings.specs.Rows.{systemId, endXHead}
 use Rattle.walk.specs.NestedLaws.{nested-room, nested-made, system-id-size, end-x}
 use Prim.Native.Nat.{ℕ, _+_}
 use borrow.Author.Needs.{needs}
@@ -14,10 +14,10 @@ use Rattle.walk.proofs.+decode+decode_neighbor+decode_prefix+decode_rou
 use Rattle.walk.proofs.+decode+decode_neighbor+decode_prefix+decode_router_capability+entry+push+tail+walk.Lts-decode_neighbor as decode-neighbor-lts
 use Rattle.walk.proofs.decode_neighbor.Reads as decode-neighbor
 use Rattle.walk.proofs.tail.Reads as tail
-use Rattle.decoders.proofs.rows.for_type.Reads as for-type-reads
-use Rattle.decoders.proofs.neighbor.system_id.Reads as system-id-reads
-use Rattle.decoders.proofs.neighbor.end_x_head.Reads as end-x-head-reads
-use Rattle.decoders.proofs.neighbor.neighbor.Reads as neighbor-reads
+use Rattle.readings.proofs.rows.for_type.Reads as for-type-reads
+use Rattle.neighbor.proofs.system_id.Reads as system-id-reads
+use Rattle.neighbor.proofs.end_x_head.Reads as end-x-head-reads
+use Rattle.neighbor.proofs.neighbor.Reads as neighbor-reads
 
 abbrev pub callees : ℕ → decode-neighbor-lts.Claims
 callees t = (for-type-reads.Asked, for-type-reads.Learnt, system-id-reads.Asked, system-id-reads.Learnt, end-x-head-reads.Asked, end-x-head-reads.Learnt, tail-below t, tail.Post, neighbor-reads.Asked, neighbor-reads.Learnt)

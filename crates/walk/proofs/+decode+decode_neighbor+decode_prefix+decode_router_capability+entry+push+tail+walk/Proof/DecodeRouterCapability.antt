@@ -6,9 +6,9 @@ use Rattle.meaning.specs.Field.{push}
 use Rattle.meaning.specs.Table.{table, fieldsOf, usual}
 use Rattle.meaning.specs.TableLaws.{leastIn, fieldsIn}
 use Rattle.meaning.specs.Value.{fieldEnd, fieldTrees, fieldsTrees, taken}
-use Rattle.decoders.specs.Reading.{readingOf}
-use Rattle.decoders.specs.ReadingLaws.{row-short, of-type}
-use Rattle.decoders.specs.Rows.{numberAt}
+use Rattle.readings.specs.Reading.{readingOf}
+use Rattle.readings.specs.ReadingLaws.{row-short, of-type}
+use Rattle.readings.specs.Rows.{numberAt}
 use lib.ListN.{length-drop}
 use Rattle.meaning.specs.PlaceLaws.{part-rest}
 use Rattle.walk.specs.NestedLaws.{nested-room, nested-made, behind-room, behind-made}

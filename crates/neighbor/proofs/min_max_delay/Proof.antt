@@ -1,0 +1,37 @@
+-- The bit and two numbers, one after the other.
+use mathlib.Core.Path.{refl}
+use Rattle.tape.specs.Forest.{_⧺_}
+use Rattle.tape.specs.LaidLaws.{laid-then}
+use Rattle.meaning.specs.Table.{table, fieldsOf, usual}
+use Rattle.meaning.specs.TableLaws.{leastIn, fieldsIn}
+use Rattle.meaning.specs.Value.{fieldEnd, fieldTrees, fieldsTrees, taken}
+use Rattle.readings.specs.Reading.{readingOf}
+use Rattle.readings.specs.ReadingLaws.{row-short, row-long}
+use borrow.Author.Needs.{needs}
+use Rattle.neighbor.proofs.min_max_delay.Statement.{statement}
+use Rattle.neighbor.proofs.min_max_delay.Tie as tie
+
+returns : tie.Need-returns
+unfolding usual fieldsOf table leastIn fieldsIn
+returns c = let g = c .before .before .before .args in row-short 0 34 (g .source .registry) (g .value .now) (g .source .base .0) refl (c .if1 .taken)
+
+flag-requires : tie.Need-flag-requires
+flag-requires c κs = search needs
+
+number24-requires : tie.Need-number24-requires
+number24-requires c κs = search needs
+
+number24-requires-2 : tie.Need-number24-requires-2
+number24-requires-2 c κs = search needs
+
+same-length : tie.Need-same-length
+same-length c = search needs
+
+returns-2 : tie.Need-returns-2
+unfolding usual fieldsOf table leastIn fieldsIn readingOf fieldsTrees fieldTrees taken fieldEnd _⧺_
+returns-2 c = let g = c .before .before .before .before .before .before .before .before .before .before .before .before .before .before .before .args in row-long 0 34 (g .source .registry) (g .value .now) (g .source .base .0) refl (c .before .before .before .before .before .before .before .before .before .before .before .before .if1 .left) (record { taken = refl; laid = laid-then (c .before .before .before .before .before .before .before .before .before .before .flag .ensures) (laid-then (c .before .before .before .before .before .before .number24 .ensures) (c .before .before .number242 .ensures)) })
+
+pub min-max-delay-spec : {M : Type 1} → statement M
+min-max-delay-spec =
+    tie.close
+    (tie.spec returns flag-requires number24-requires number24-requires-2 same-length returns-2)

@@ -1,0 +1,211 @@
+// Registry 0: sub-TLVs of a neighbor (TLVs 22 and 222).
+use fields::Source;
+use fields::array::numbers;
+use fields::part::flag;
+use fields::part::number8;
+use fields::part::number16;
+use fields::part::number24;
+use fields::part::number32;
+use fields::part::part;
+use fields::sid::sid;
+use readings::Decoded;
+use readings::Taken;
+use readings::rows::flag_and_number;
+use readings::rows::ipv4;
+use readings::rows::ipv6;
+use readings::rows::one_number24;
+use readings::rows::one_number32;
+use registry::registries::Neighbor;
+use tape::Octet;
+use tape::Position;
+use tape::label::Label;
+use tape::shape::Shape;
+ghost use mathlib.Core.Path.{_≡_};
+ghost use Prim.Native.Nat.{_+_, _≤_, _<_, _^_};
+ghost use lib.ListN.{length};
+ghost use Rattle.tape.specs.Laid.{Laid};
+ghost use Rattle.meaning.specs.Table.{usual};
+ghost use Rattle.readings.specs.Reading.{Reads, readingOf, reading};
+ghost use Rattle.readings.specs.Rows.{systemId, endXHead};
+
+// Link local and remote identifiers (RFC 5307, section 1.1).
+fn link_identifiers(value: &[u8], source: Source, tape: &mut [u64], position: Position) -> Decoded
+    requires { ⌜ (source .base .0 + length (now value) < 2 ^ 32) × (position .0 < 2 ^ 59) ⌝ }
+    ensures { λ r. ⌜ Reads (readingOf (source .registry) (now (value .entry)) (source .base .0) (usual 0 4 (now (value .entry)))) (now (tape .entry)) (now (tape .exit)) (position .0) r ⌝ }
+{
+    if value.len() < 8 {
+        return Decoded {
+            taken: Taken::Nothing,
+            next: position,
+        };
+    }
+    let second = number32(value, source, Label::LOCAL_IDENTIFIER, 0, tape, position);
+    let next = number32(value, source, Label::REMOTE_IDENTIFIER, 4, tape, second);
+    Decoded {
+        taken: Taken::Octets(8),
+        next,
+    }
+}
+
+// Unreserved bandwidth (RFC 5305, section 3.6): 8 numbers from the first 32 octets.
+fn unreserved_bandwidth(
+    value: &[u8],
+    source: Source,
+    tape: &mut [u64],
+    position: Position,
+) -> Decoded
+    requires { ⌜ (source .base .0 + length (now value) < 2 ^ 32) × (position .0 < 2 ^ 59) ⌝ }
+    ensures { λ r. ⌜ Reads (readingOf (source .registry) (now (value .entry)) (source .base .0) (usual 0 11 (now (value .entry)))) (now (tape .entry)) (now (tape .exit)) (position .0) r ⌝ }
+{
+    if value.len() < 32 {
+        return Decoded {
+            taken: Taken::Nothing,
+            next: position,
+        };
+    }
+    let shown = numbers(
+        &value[0..32],
+        source,
+        Label::UNRESERVED_BANDWIDTH,
+        Label::BANDWIDTH_ELEMENT,
+        Shape::U32,
+        4,
+        tape,
+        position,
+    );
+    let covered = shown.covered;
+    let next = shown.next;
+    Decoded {
+        taken: Taken::Octets(covered),
+        next,
+    }
+}
+
+// LAN-Adj-SID (RFC 8667, section 2.2.2): Flags | Weight | Neighbor System-ID | SID/Label/Index.
+fn lan_adj_sid(value: &[u8], source: Source, tape: &mut [u64], position: Position) -> Decoded
+    requires { ⌜ (source .base .0 + length (now value) < 2 ^ 32) × (position .0 < 2 ^ 59) ⌝ }
+    ensures { λ r. ⌜ Reads (readingOf (source .registry) (now (value .entry)) (source .base .0) (usual 0 32 (now (value .entry)))) (now (tape .entry)) (now (tape .exit)) (position .0) r ⌝ }
+{
+    if value.len() < 11 {
+        return Decoded {
+            taken: Taken::Nothing,
+            next: position,
+        };
+    }
+    let second = number8(value, source, Label::FLAGS, 0, tape, position);
+    let third = number8(value, source, Label::WEIGHT, 1, tape, second);
+    let fourth = part(
+        source,
+        Label::NEIGHBOR_SYSTEM_ID,
+        Shape::BYTES,
+        2,
+        6,
+        0,
+        tape,
+        third,
+    );
+    let shown = sid(value, source, Label::SID, 8, tape, fourth);
+    let covered = shown.covered;
+    let next = shown.next;
+    Decoded {
+        taken: Taken::Octets(covered),
+        next,
+    }
+}
+
+// Min/max link delay (RFC 8570, section 4.2): A | RESERVED | Min Delay | RESERVED | Max Delay.
+fn min_max_delay(value: &[u8], source: Source, tape: &mut [u64], position: Position) -> Decoded
+    requires { ⌜ (source .base .0 + length (now value) < 2 ^ 32) × (position .0 < 2 ^ 59) ⌝ }
+    ensures { λ r. ⌜ Reads (readingOf (source .registry) (now (value .entry)) (source .base .0) (usual 0 34 (now (value .entry)))) (now (tape .entry)) (now (tape .exit)) (position .0) r ⌝ }
+{
+    if value.len() < 8 {
+        return Decoded {
+            taken: Taken::Nothing,
+            next: position,
+        };
+    }
+    let second = flag(value, source, Label::ANOMALOUS, 0x80, tape, position);
+    let third = number24(value, source, Label::MIN_DELAY, 1, tape, second);
+    let next = number24(value, source, Label::MAX_DELAY, 5, tape, third);
+    Decoded {
+        taken: Taken::Octets(8),
+        next,
+    }
+}
+
+// What stands before the SID of an SRv6 End.X SID (RFC 9352, section 8.1): Flags | Algorithm | Weight | Endpoint Behavior.
+pub fn end_x_head(
+    value: &[u8],
+    source: Source,
+    at: usize,
+    tape: &mut [u64],
+    position: Position,
+) -> Position
+    requires { ⌜ (at + 5 ≤ length (now value)) × (source .base .0 + length (now value) < 2 ^ 32) × (position .0 < 2 ^ 59 + 1) ⌝ }
+    ensures { λ r. ⌜ Laid (endXHead (source .registry) (now (value .entry)) (source .base .0) at) (now (tape .entry)) (now (tape .exit)) (position .0) (r .0) ⌝ }
+{
+    let second = number8(value, source, Label::FLAGS, at, tape, position);
+    let third = number8(value, source, Label::ALGORITHM, at + 1, tape, second);
+    let fourth = number8(value, source, Label::WEIGHT, at + 2, tape, third);
+    number16(
+        value,
+        source,
+        Label::ENDPOINT_BEHAVIOR,
+        at + 3,
+        tape,
+        fourth,
+    )
+}
+
+// Lays the neighbor's system id, which stands first on a LAN (RFC 9352, section 8.2), where it has octets.
+pub fn system_id(source: Source, width: usize, tape: &mut [u64], position: Position) -> Position
+    requires { ⌜ (source .base .0 + width < 2 ^ 32) × (position .0 < 2 ^ 60) ⌝ }
+    ensures { λ r. ⌜ Laid (systemId width (source .registry) (source .base .0)) (now (tape .entry)) (now (tape .exit)) (position .0) (r .0) ⌝ }
+{
+    if width == 0 {
+        return position;
+    }
+    part(
+        source,
+        Label::NEIGHBOR_SYSTEM_ID,
+        Shape::BYTES,
+        0,
+        width,
+        0,
+        tape,
+        position,
+    )
+}
+
+// A value by its type; type 31 is read with other SIDs, the types 43 and 44 hold an area of their own.
+pub fn neighbor(value: &[u8], kind: u8, base: Octet, tape: &mut [u64], at: Position) -> Decoded
+    requires { ⌜ (kind ≡ 31 → ⊥) × (kind ≡ 43 → ⊥) × (kind ≡ 44 → ⊥) × (base .0 + length (now value) < 2 ^ 32) × (at .0 < 2 ^ 59) ⌝ }
+    ensures { λ r. ⌜ Reads (reading 0 kind (now (value .entry)) (base .0)) (now (tape .entry)) (now (tape .exit)) (at .0) r ⌝ }
+{
+    let source = Source {
+        registry: Neighbor::NUMBER as u8,
+        base,
+    };
+    match kind {
+        3 => one_number32(value, source, Label::ADMIN_GROUP, tape, at),
+        4 => link_identifiers(value, source, tape, at),
+        6 => ipv4(value, source, Label::IPV4_INTERFACE_ADDRESS, tape, at),
+        8 => ipv4(value, source, Label::IPV4_NEIGHBOR_ADDRESS, tape, at),
+        9 => one_number32(value, source, Label::MAX_BANDWIDTH, tape, at),
+        10 => one_number32(value, source, Label::MAX_RESERVABLE_BANDWIDTH, tape, at),
+        11 => unreserved_bandwidth(value, source, tape, at),
+        12 => ipv6(value, source, Label::IPV6_INTERFACE_ADDRESS, tape, at),
+        13 => ipv6(value, source, Label::IPV6_NEIGHBOR_ADDRESS, tape, at),
+        18 => one_number24(value, source, Label::TE_DEFAULT_METRIC, 0, tape, at),
+        32 => lan_adj_sid(value, source, tape, at),
+        33 => flag_and_number(value, source, Label::DELAY, tape, at),
+        34 => min_max_delay(value, source, tape, at),
+        35 => one_number24(value, source, Label::DELAY_VARIATION, 1, tape, at),
+        36 => flag_and_number(value, source, Label::LINK_LOSS, tape, at),
+        37..=39 => one_number32(value, source, Label::BANDWIDTH, tape, at),
+        _ => Decoded {
+            taken: Taken::Nothing,
+            next: at,
+        },
+    }
+}

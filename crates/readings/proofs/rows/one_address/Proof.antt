@@ -1,0 +1,22 @@
+-- The address is laid where there are enough octets.
+use mathlib.Core.Path.{refl}
+use borrow.Author.Tests.{le-leb, lt-leb}
+use Rattle.readings.specs.ReadingLaws.{reads-nothing}
+use borrow.Author.Needs.{needs}
+use Rattle.readings.proofs.rows.one_address.Statement.{statement}
+use Rattle.readings.proofs.rows.one_address.Tie as tie
+
+returns : tie.Need-returns
+returns c = rw (lt-leb _ _ (c .if1 .taken)) reads-nothing
+
+part-requires : tie.Need-part-requires
+part-requires c κs = search needs
+
+same-length : tie.Need-same-length
+same-length c = search needs
+
+returns-2 : tie.Need-returns-2
+returns-2 c = rw (le-leb _ _ (c .before .before .before .before .if1 .left)) (record { taken = refl; laid = c .before .before .part .ensures })
+
+pub one-address-spec : {M : Type 1} → statement M
+one-address-spec = tie.close (tie.spec returns part-requires same-length returns-2)

@@ -1,0 +1,47 @@
+-- What a decoder gives for a value: what it takes, and the trees that it shows.
+use mathlib.Core.Path.{_≡_}
+use mathlib.Core.Bool.{cond}
+use mathlib.Core.List.{List, [], _∷_}
+use Prim.Native.Nat.{ℕ}
+use lib.Dec.{leb}
+use lib.ListN.{length}
+use Rattle.tape.specs.Forest.{Forest, none}
+use Rattle.tape.specs.Laid.{Laid}
+use Rattle.meaning.specs.Field.{Field}
+use Rattle.meaning.specs.Table.{usual}
+use Rattle.meaning.specs.Value.{taken, fieldsTrees}
+use Rattle.meaning.specs.Area.{walked}
+use Rattle.readings.specs.declared.Decoded.{Decoded}
+use Rattle.readings.specs.declared.Taken.{Taken}
+use Rattle.readings.specs.declared.Taken.the-variants.{Octets, Nothing}
+
+-- what is taken of a value, and what is shown
+pub record Reading : Type 0 where
+  pub taken : Taken
+  pub found : Forest
+
+-- a value that is not decoded
+abbrev pub nothing : Reading
+nothing = record { taken = Nothing; found = none }
+
+-- so many octets taken, and trees shown
+abbrev pub took : ℕ → Forest → Reading
+took n trees = record { taken = Octets n; found = trees }
+
+-- a reading, where the value has so many octets or more
+abbrev pub given : ℕ → List ℕ → Reading → Reading
+given least v x = cond (leb least (length v)) x nothing
+
+-- the reading by fields: none where there are no fields
+unfoldable pub readingOf : ℕ → List ℕ → ℕ → List Field → Reading
+readingOf registry v base [] = nothing
+readingOf registry v base (f ∷ fs) = took (taken v (f ∷ fs)) (fieldsTrees (walked usual) registry v base (f ∷ fs))
+
+-- the reading of a value of type t, the first octet at base
+abbrev pub reading : ℕ → ℕ → List ℕ → ℕ → Reading
+reading registry t v base = readingOf registry v base (usual registry t v)
+
+-- the contract of a decoder: what it took, and what it laid on the tape t from position at on, which made it u
+pub record Reads (x : Reading) (t u : List ℕ) (at : ℕ) (r : Decoded) : Type 0 where
+  pub taken : r .taken ≡ x .taken
+  pub laid : Laid (x .found) t u at (r .next .0)
