@@ -1,11 +1,11 @@
 // The nest test (document 01, 'The tape').
 use crate::limits::DEEPEST;
+use store::header::in_order;
+use store::header::used;
+use store::words::get;
 use tape::Position;
 use tape::Record;
-use tape::header::in_order;
-use tape::header::used;
 use tape::shape::Shape;
-use tape::words::get;
 ghost use mathlib.Core.Path.{_≡_};
 ghost use Prim.Native.Nat.{_+_, _*_, _≤_, _<_, _^_};
 ghost use lib.ListN.{length};

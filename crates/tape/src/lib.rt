@@ -2,11 +2,8 @@
 ghost use mathlib.Core.Path.{_≡_};
 ghost use Rattle.tape.specs.Record.{labelOf, shapeOf, registryOf, leafRecord, containerRecord, zeros, words};
 
-pub mod header;
 pub mod label;
-pub mod lay;
 pub mod shape;
-pub mod words;
 
 // A packet offset: an octet's place, base added.
 pub struct Octet(pub usize);

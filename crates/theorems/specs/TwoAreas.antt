@@ -65,13 +65,25 @@ old n word = 1 ∷ 4 ∷ 6 ∷ 0 ∷ replicate n word
 abbrev after : Ending → ℕ → List ℕ → After
 after e kind tape = areaCall (called e usual) 2 (area kind) 100 tape
 
--- the premises hold, for walk and for push
-pub two-areas : (e : Ending) → Two e usual 2 100 (area 1) (area 2) (old 150 7) (old 170 9) (after e 1 (old 150 7) .outcome) (after e 2 (old 170 9) .outcome) (after e 1 (old 150 7) .lent) (after e 2 (old 170 9) .lent) (ahead ∷ []) (0x02 ∷ 0x09 ∷ ranged 1) ((0x17 ∷ 0x02 ∷ 0x01 ∷ 0x0A ∷ []) ∷ [])
+-- both are accepted, walk and push
+accepts : (e : Ending) → (after e 1 (old 150 7) .outcome .answer ≡ 0) × (after e 2 (old 170 9) .outcome .answer ≡ 0)
 unfolding bigEndian registryOf headed putAt store _⧺_ flat piecesAfter pieces total each entryLength entries covered remainder rangeLength table fieldsOf usual raw sidTrees sidEnd elementTrees arrayOf fieldEnd taken pushBy fieldTrees fieldsTrees valueTrees entryTrees walkTrees innerWalk walked pushed appended fitted callIn
-two-areas leave =
-    record { ran = record { gave = refl; left = refl }; ran′ = record { gave = refl; left = refl }; found = refl; differ = differ-inside (ahead ++ (0x02 ∷ 0x09 ∷ [])) (ranged 1) (ranged 2) behind refl; accepted = refl; accepted′ = refl; same-used = refl }
-two-areas show =
-    record { ran = record { gave = refl; left = refl }; ran′ = record { gave = refl; left = refl }; found = refl; differ = differ-inside (ahead ++ (0x02 ∷ 0x09 ∷ [])) (ranged 1) (ranged 2) behind refl; accepted = refl; accepted′ = refl; same-used = refl }
+accepts leave = (refl, refl)
+accepts show = (refl, refl)
+
+-- the premises hold
+pub two-areas : (e : Ending) → Two e usual 2 100 (area 1) (area 2) (old 150 7) (old 170 9) (after e 1 (old 150 7) .outcome) (after e 2 (old 170 9) .outcome) (after e 1 (old 150 7) .lent) (after e 2 (old 170 9) .lent) (ahead ∷ []) (0x02 ∷ 0x09 ∷ ranged 1) ((0x17 ∷ 0x02 ∷ 0x01 ∷ 0x0A ∷ []) ∷ [])
+unfolding total entryLength entries pieces piecesAfter
+two-areas e =
+    record {
+      ran = record { gave = refl; left = refl };
+      ran′ = record { gave = refl; left = refl };
+      found = refl;
+      differ = differ-inside (ahead ++ (0x02 ∷ 0x09 ∷ [])) (ranged 1) (ranged 2) behind refl;
+      accepted = accepts e .0;
+      accepted′ = accepts e .1;
+      same-used = refl;
+    }
 
 -- and the entry has two records more in the one than in the other
 pub two-more : size (own usual 2 100 (ahead ∷ []) (0x02 ∷ 0x09 ∷ ranged 1) []) ≡ size (own usual 2 100 (ahead ∷ []) (0x02 ∷ 0x09 ∷ ranged 2) []) + 2

@@ -14,7 +14,7 @@ use Rattle.calls.proofs.nest.+split.Lts-split as split-lts
 use Rattle.calls.proofs.nest.holds_others.Reads as holds-others-reads
 use Rattle.calls.proofs.nest.is_container.Reads as is-container-reads
 use Rattle.calls.proofs.nest.is_leaf.Reads as is-leaf-reads
-use Rattle.tape.proofs.words.get.Reads as get-reads
+use Rattle.store.proofs.words.get.Reads as get-reads
 use Rattle.calls.proofs.nest.+split.{statement}
 use Rattle.calls.proofs.nest.+split.Tie.{close}
 

@@ -1,13 +1,13 @@
 // The words of records: written where they lie inside the tape, and read.
-use crate::Octet;
-use crate::Position;
-use crate::Record;
+use tape::Octet;
+use tape::Position;
+use tape::Record;
 ghost use mathlib.Core.Path.{_≡_};
 ghost use Prim.Native.Nat.{_+_, _*_, _^_, _<_, _≤_};
 ghost use lib.ListN.{length};
 ghost use lib.Seq.{sets};
 ghost use Rattle.tape.specs.Record.{words};
 ghost use Rattle.tape.specs.Tape.{putAt, recordAt};
 
 // The first word of the record at position `at`.
 fn first_word(at: Position) -> usize

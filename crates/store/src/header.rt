@@ -1,9 +1,9 @@
 // The header: records used, the word offset of the first record, words in a record, zero.
-use crate::Position;
+use tape::Position;
 ghost use mathlib.Core.Path.{_≡_};
 ghost use Prim.Native.Nat.{_≤_};
 ghost use lib.ListN.{length};
 ghost use Rattle.tape.specs.Tape.{used, headed, withUsed};
 
 // Whether the header is in order; where it is not, all calls but clear are refused with 4.
 pub fn in_order(tape: &[u64]) -> bool

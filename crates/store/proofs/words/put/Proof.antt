@@ -1,10 +1,10 @@
 -- Inside the tape six words are written; outside of it, nothing.
 use mathlib.Core.Path.{_∙_}
 use native.Mathlib.Omega.{arith}
 use Rattle.tape.specs.TapeLaws.{put-inside, put-outside}
 use borrow.Author.Needs.{needs}
-use Rattle.tape.proofs.words.put.Statement.{statement}
-use Rattle.tape.proofs.words.put.Tie as tie
+use Rattle.store.proofs.words.put.Statement.{statement}
+use Rattle.store.proofs.words.put.Tie as tie
 
 first-word-requires : tie.Need-first-word-requires
 first-word-requires c κs = search needs

@@ -1,10 +1,10 @@
 -- One return for each test.
 use mathlib.Core.Path.{refl}
 use borrow.Author.Tests.{le-leb, lt-leb, eq-eqb, ne-eqb}
 use Rattle.tape.specs.Tape.{headed}
 use borrow.Author.Needs.{needs}
-use Rattle.tape.proofs.header.in_order.Statement.{statement}
-use Rattle.tape.proofs.header.in_order.Tie as tie
+use Rattle.store.proofs.header.in_order.Statement.{statement}
+use Rattle.store.proofs.header.in_order.Tie as tie
 
 returns : tie.Need-returns
 unfolding headed

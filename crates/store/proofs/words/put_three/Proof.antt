@@ -1,9 +1,9 @@
 -- Inside the tape all three are written; otherwise the first two, as far as they lie inside.
 use native.Mathlib.Omega.{arith}
 use Rattle.tape.specs.TapeLaws.{three-inside, three-outside}
 use borrow.Author.Needs.{needs}
-use Rattle.tape.proofs.words.put_three.Statement.{statement}
-use Rattle.tape.proofs.words.put_three.Tie as tie
+use Rattle.store.proofs.words.put_three.Statement.{statement}
+use Rattle.store.proofs.words.put_three.Tie as tie
 
 first-word-requires : tie.Need-first-word-requires
 first-word-requires c κs = search needs

@@ -1,14 +1,14 @@
 // A leaf and a container laid on the tape, as far as it reaches: what every function that writes records is made of.
-use crate::Content;
-use crate::Position;
 use crate::words::put;
 use crate::words::put_three;
+use tape::Content;
+use tape::Position;
 ghost use mathlib.Core.Path.{_≡_};
 ghost use Prim.Native.Nat.{_+_, _<_, _^_};
 ghost use Rattle.tape.specs.Record.{leafRecord, containerRecord};
 ghost use Rattle.tape.specs.Tape.{putAt};
 ghost use Rattle.tape.specs.Forest.{leaf, none};
 ghost use Rattle.tape.specs.Laid.{Laid};
 
 // Lays a leaf at position `at`, and gives the position after it.
 pub fn leaf(tape: &mut [u64], at: Position, content: Content) -> Position

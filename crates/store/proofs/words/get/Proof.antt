@@ -1,8 +1,8 @@
 -- Six words are read.
 use mathlib.Core.Path.{refl}
 use native.Mathlib.Omega.{arith}
-use Rattle.tape.proofs.words.get.Statement.{statement}
-use Rattle.tape.proofs.words.get.Tie as tie
+use Rattle.store.proofs.words.get.Statement.{statement}
+use Rattle.store.proofs.words.get.Tie as tie
 
 first-word-requires : tie.Need-first-word-requires
 first-word-requires c κs = omega arith

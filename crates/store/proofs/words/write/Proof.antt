@@ -1,10 +1,10 @@
 -- Six words are written.
 use native.Mathlib.Omega.{arith}
 use lib.ListN.{length-set}
 use Rattle.tape.specs.TapeLaws.{six-set}
 use borrow.Author.Needs.{needs}
-use Rattle.tape.proofs.words.write.Statement.{statement}
-use Rattle.tape.proofs.words.write.Tie as tie
+use Rattle.store.proofs.words.write.Statement.{statement}
+use Rattle.store.proofs.words.write.Tie as tie
 
 mul-tape : tie.Need-mul-tape
 mul-tape c = search needs

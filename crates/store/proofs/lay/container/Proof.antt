@@ -1,7 +1,7 @@
 -- The container's record is put.
 use borrow.Author.Needs.{needs}
-use Rattle.tape.proofs.lay.container.Statement.{statement}
-use Rattle.tape.proofs.lay.container.Tie as tie
+use Rattle.store.proofs.lay.container.Statement.{statement}
+use Rattle.store.proofs.lay.container.Tie as tie
 
 add-t10 : tie.Need-add-t10
 add-t10 c = search needs

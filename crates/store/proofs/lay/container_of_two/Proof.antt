@@ -1,7 +1,7 @@
 -- The three records are put.
 use borrow.Author.Needs.{needs}
-use Rattle.tape.proofs.lay.container_of_two.Statement.{statement}
-use Rattle.tape.proofs.lay.container_of_two.Tie as tie
+use Rattle.store.proofs.lay.container_of_two.Statement.{statement}
+use Rattle.store.proofs.lay.container_of_two.Tie as tie
 
 add-t9 : tie.Need-add-t9
 add-t9 c = search needs

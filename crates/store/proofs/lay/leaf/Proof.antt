@@ -1,8 +1,8 @@
 -- The leaf's record is put.
 use Rattle.tape.specs.LaidLaws.{laid-leaf}
 use borrow.Author.Needs.{needs}
-use Rattle.tape.proofs.lay.leaf.Statement.{statement}
-use Rattle.tape.proofs.lay.leaf.Tie as tie
+use Rattle.store.proofs.lay.leaf.Statement.{statement}
+use Rattle.store.proofs.lay.leaf.Tie as tie
 
 leaf-requires : tie.Need-leaf-requires
 leaf-requires c κs = search needs
