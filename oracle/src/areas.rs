@@ -340,7 +340,7 @@ fn followed_areas() -> Vec<Area> {
 }
 
 /// An area of these octets.
-fn area(registry: u8, octets: Vec<u8>) -> Area {
+pub(crate) fn area(registry: u8, octets: Vec<u8>) -> Area {
     Area { registry, octets }
 }
 

@@ -13,7 +13,7 @@ const HEAD: &str = "\
 -- What the Rust of docs/src shows of values around each row's least length and of the special cases: pushes at base 100 (made by `oracle cases`).
 use mathlib.Core.List.{List, [], _∷_}
 use Prim.Native.Nat.{ℕ}
-use Rattle.meaning.specs.Examples.Example.{line, Case, push}
+use Rattle.meaning.specs.Examples.Example.{printed, Case, push}
 
 -- registry, area, octets covered, records (label, shape, registry, words 1 to 5)
 unfoldable pub rustCases : List Case
@@ -96,7 +96,7 @@ fn lines(records: &[Record]) -> String {
     }
     let elements: String = records
         .iter()
-        .map(|record| format!("    line {} ∷\n", columns(record)))
+        .map(|record| format!("    printed {} ∷\n", columns(record)))
         .collect();
     format!("(\n{elements}    []\n    )")
 }

@@ -2,7 +2,38 @@
 
 use std::fmt::Write;
 
-use crate::records::{Push, Record};
+use crate::batch::PushCase;
+use crate::records::{Push, Record, push};
+use crate::registry::LAST_REGISTRY;
+
+/// What the dump program prints for an input: registry (1 octet), base (4), area.
+pub fn dumped(input: &[u8]) -> String {
+    match taken(input) {
+        Ok(case) => dump(&push(case.registry, case.base, case.area)),
+        Err(answer) => format!("{answer} 0 0 0\n"),
+    }
+}
+
+/// The push that an input asks for, or the answer that refuses it, by document 01's table in its
+/// order; 10 comes first.
+fn taken(input: &[u8]) -> Result<PushCase<'_>, u8> {
+    let (&[registry, ref base @ ..], area) = input.split_first_chunk::<5>().ok_or(10)?;
+    let base = u32::from_be_bytes(*base);
+    if area.len() > 512 {
+        return Err(10);
+    }
+    if registry > LAST_REGISTRY {
+        return Err(1);
+    }
+    if u64::from(base) + area.len() as u64 > 4_294_967_295 {
+        return Err(3);
+    }
+    Ok(PushCase {
+        registry,
+        base,
+        area,
+    })
+}
 
 /// What the dump program prints for a push.
 pub fn dump(push: &Push) -> String {

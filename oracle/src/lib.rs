@@ -11,6 +11,9 @@ pub mod bench;
 mod cases;
 mod dump;
 pub mod field;
+mod hex;
+mod inputs;
+pub mod judge;
 mod labels;
 mod names;
 pub mod packet;
@@ -27,7 +30,9 @@ mod sub_tlv;
 
 pub use areas::{Area, areas};
 pub use cases::{cases, is_read, least_length};
-pub use dump::dump;
+pub use dump::{dump, dumped};
+pub use hex::hex;
+pub use inputs::dump_inputs;
 pub use names::{listing, name};
 pub use records::{Push, Record, push};
 pub use registry::LAST_REGISTRY;
@@ -52,6 +57,5 @@ fn format_isis_id(
     let FieldValue::Bytes(octets) = value else {
         return out.write_all(b"null");
     };
-    let pairs: Vec<String> = octets.iter().map(|octet| format!("{octet:02x}")).collect();
-    write!(out, "\"{}\"", pairs.join("."))
+    write!(out, "\"{}\"", hex(octets, "."))
 }

@@ -1,12 +1,14 @@
 //! Prints what the Rust module gives: for cases on standard input, for every
-//! type's name, and for two lists of cases of its own.
+//! type's name, and for two lists of cases of its own; and judges a dump
+//! program by it.
 
 use std::error::Error;
-use std::ffi::OsString;
+use std::ffi::{OsStr, OsString};
 use std::io::{self, Read, Write};
 use std::process::ExitCode;
 
 use oracle::batch::{mask_cases, push_cases};
+use oracle::judge::{self, Difference};
 
 /// What the program says when it is called with other words.
 const USAGE: &str = "\
@@ -14,7 +16,11 @@ usage: oracle push    a batch of pushes on standard input; prints the records of
        oracle names   prints all names
        oracle mask    a batch of masks on standard input; prints each masked prefix
        oracle cases   prints the text of crates/meaning/specs/Examples/RustCases.antt
-       oracle replay  writes the octets of crates/replay/stdin";
+       oracle replay  writes the octets of crates/replay/stdin
+       oracle dump    a dump program's input on standard input; prints what it is to print
+       oracle judge COMMAND..
+                      runs a dump program on hundreds of inputs, and compares what it prints with
+                      what it is to print; exit status 1 at the first difference";
 
 /// The end of a run: done, or a message for standard error.
 type Run = Result<(), Box<dyn Error>>;
@@ -25,9 +31,14 @@ fn main() -> ExitCode {
         Ok(()) => ExitCode::SUCCESS,
         Err(message) => {
             eprintln!("{message}");
-            ExitCode::from(2)
+            status(&*message)
         }
     }
+}
+
+/// The exit status after a message: 1 for a wrong dump program, 2 for all else.
+fn status(message: &(dyn Error + 'static)) -> ExitCode {
+    ExitCode::from(if message.is::<Difference>() { 1 } else { 2 })
 }
 
 /// Does what the words ask for.
@@ -38,6 +49,8 @@ fn run(words: &[OsString]) -> Run {
         [word] if word == "mask" => print_masks(),
         [word] if word == "cases" => print_cases(),
         [word] if word == "replay" => write_replay(),
+        [word] if word == "dump" => print_dump(),
+        [word, program, arguments @ ..] if word == "judge" => judge(program, arguments),
         _ => Err(USAGE.into()),
     }
 }
@@ -65,7 +78,7 @@ fn print_masks() -> Run {
     for case in mask_cases(&batch)? {
         let mut prefix = case.prefix.to_vec();
         oracle::mask_prefix(&mut prefix, case.bits as usize);
-        writeln!(out, "{}", hex(&prefix))?;
+        writeln!(out, "{}", oracle::hex(&prefix, " "))?;
     }
     Ok(out.flush()?)
 }
@@ -80,15 +93,35 @@ fn write_replay() -> Run {
     Ok(io::stdout().write_all(&oracle::replay())?)
 }
 
+/// Prints what the dump program is to print for standard input.
+fn print_dump() -> Run {
+    let text = oracle::dumped(&standard_input()?);
+    Ok(io::stdout().write_all(text.as_bytes())?)
+}
+
+/// Runs a dump program on every input, and says that it printed what it is to print.
+fn judge(program: &OsStr, arguments: &[OsString]) -> Run {
+    let inputs = oracle::dump_inputs();
+    let printer = |input: &[u8]| judge::run(program, arguments, input);
+    match judge::first_difference(&inputs, printer) {
+        Ok(None) => Ok(say_right(inputs.len())?),
+        Ok(Some(difference)) => Err(difference.into()),
+        Err(error) => Err(format!("{}: {error}", program.to_string_lossy()).into()),
+    }
+}
+
+/// Says that so many inputs were printed right.
+fn say_right(count: usize) -> io::Result<()> {
+    let mut out = io::stdout();
+    writeln!(
+        out,
+        "{count} inputs, each printed as the Rust and document 01 say"
+    )
+}
+
 /// All octets of standard input.
 fn standard_input() -> io::Result<Vec<u8>> {
     let mut octets = Vec::new();
     io::stdin().lock().read_to_end(&mut octets)?;
     Ok(octets)
-}
-
-/// Octets in lowercase hex with spaces between.
-fn hex(octets: &[u8]) -> String {
-    let pairs: Vec<String> = octets.iter().map(|octet| format!("{octet:02x}")).collect();
-    pairs.join(" ")
 }

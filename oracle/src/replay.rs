@@ -3,7 +3,7 @@
 use std::collections::HashSet;
 
 use crate::LAST_REGISTRY;
-use crate::areas::{Area, areas, entry, flipped, mixed};
+use crate::areas::{Area, area, areas, entry, flipped, mixed};
 use crate::cases::least_length;
 use crate::records::{Record, push};
 
@@ -26,7 +26,7 @@ const MOST_IN_SMALL: usize = 3;
 const DAMAGE_STRIDE: usize = 3;
 
 /// Entries that are repeated to great areas: registry, entry, how often.
-const GREAT_AREAS: [(u8, &[u8], usize); 8] = [
+pub(crate) const GREAT_AREAS: [(u8, &[u8], usize); 8] = [
     (0, &[0x12, 0x03, 0x12, 0x34, 0x56], 102),
     (1, &[0x04, 0x01, 0xA0], 140),
     (2, &[0x13, 0x00], 170),
@@ -128,7 +128,7 @@ fn case(turn: usize, area: &Area) -> Vec<u8> {
 }
 
 /// The base of a case: small, great, or such that the area ends at the greatest place.
-fn base(turn: usize, length: usize) -> u32 {
+pub(crate) fn base(turn: usize, length: usize) -> u32 {
     let greatest = u32::MAX - length as u32;
     let bases = [
         0,
@@ -161,31 +161,35 @@ fn two_octets(number: u64) -> [u8; 2] {
     number.to_be_bytes()
 }
 
-/// An area of these octets.
-fn area(registry: u8, octets: Vec<u8>) -> Area {
-    Area { registry, octets }
-}
-
 /// Registries and types, all of them.
 fn all_types() -> impl Iterator<Item = (u8, u8)> {
     (0..=LAST_REGISTRY).flat_map(|registry| (0..=u8::MAX).map(move |t| (registry, t)))
 }
 
-/// Values of every type that is read: one octet too short, of the least length, and longer.
-fn row_areas() -> Vec<Area> {
-    let rows = all_types().filter_map(|(registry, t)| {
+/// The types that are read: registry, type, least value length.
+pub(crate) fn rows() -> impl Iterator<Item = (u8, u8, usize)> {
+    all_types().filter_map(|(registry, t)| {
         let least = usize::from(least_length(registry, t)?);
-        Some(around_least(registry, t, least))
-    });
-    rows.flatten().collect()
+        Some((registry, t, least))
+    })
+}
+
+/// Value lengths of a type: one too short, the least, and greater ones.
+pub(crate) fn lengths_around(least: usize) -> impl Iterator<Item = usize> {
+    let less = least.checked_sub(1);
+    let longer = MORE.map(|more| least + more);
+    less.into_iter().chain(longer).chain([MOST_IN_VALUE])
+}
+
+/// Values of every type that is read, around its least length.
+fn row_areas() -> Vec<Area> {
+    let areas = rows().flat_map(|(registry, t, least)| around_least(registry, t, least));
+    areas.collect()
 }
 
 /// Values of one type around the least length, each alone and in a row with others.
 fn around_least(registry: u8, t: u8, least: usize) -> Vec<Area> {
-    let less = least.checked_sub(1);
-    let longer = MORE.map(|more| least + more);
-    let lengths = less.into_iter().chain(longer).chain([MOST_IN_VALUE]);
-    let values = lengths.flat_map(fillings);
+    let values = lengths_around(least).flat_map(fillings);
     let entries = values.map(|value| entry(t, &value));
     entries
         .flat_map(|entry| in_company(registry, entry))
@@ -194,7 +198,7 @@ fn around_least(registry: u8, t: u8, least: usize) -> Vec<Area> {
 
 /// Values of this length: of different octets, of these with every bit the other way, and of the
 /// greatest octet.
-fn fillings(length: usize) -> [Vec<u8>; 3] {
+pub(crate) fn fillings(length: usize) -> [Vec<u8>; 3] {
     [mixed(length), flipped(length), vec![0xFF; length]]
 }
 
@@ -231,7 +235,7 @@ fn small_areas() -> Vec<Area> {
 }
 
 /// Copies of the areas with one octet changed or taken out, or cut off.
-fn damaged_areas() -> Vec<Area> {
+pub(crate) fn damaged_areas() -> Vec<Area> {
     let areas = areas().into_iter().enumerate();
     let copies = areas.flat_map(|(turn, area)| {
         let places = (turn % DAMAGE_STRIDE..area.octets.len()).step_by(DAMAGE_STRIDE);
@@ -255,7 +259,7 @@ fn damaged(whole: &Area, place: usize) -> Area {
 }
 
 /// Areas with many records.
-fn great_areas() -> Vec<Area> {
+pub(crate) fn great_areas() -> Vec<Area> {
     let areas = GREAT_AREAS.map(|(registry, entry, count)| area(registry, entry.repeat(count)));
     areas.into()
 }

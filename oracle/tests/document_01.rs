@@ -1,7 +1,7 @@
-//! The examples of document 01, section "Octets and what they become", and
-//! the registries of an SRv6 tail.
+//! The examples of document 01, section "Octets and what they become", the
+//! registries of an SRv6 tail, and the answers of the dump program.
 
-use oracle::{Push, Record, dump, mask_prefix, push};
+use oracle::{Push, Record, dump, dumped, mask_prefix, push};
 
 /// The base of the examples.
 const BASE: u32 = 100;
@@ -233,4 +233,58 @@ fn inner_entries_of_an_srv6_tail_are_of_registry_4() {
     let end_sid = push(1, BASE, &area);
     let registries: Vec<u8> = end_sid.records.iter().map(|one| one.registry).collect();
     assert_eq!(registries, [1, 1, 1, 1, 1, 1, 1, 4, 4, 4, 4, 4, 4, 4, 4]);
+}
+
+/// The first line that the dump program prints for a head in hex and an area of zeros.
+fn first_line(head: &str, zeros: usize) -> String {
+    let text = dumped(&[octets(head), vec![0; zeros]].concat());
+    text.lines().next().unwrap_or_default().into()
+}
+
+#[test]
+fn the_dump_program_prints_the_listing() {
+    let metric = dumped(&octets("00 00 00 00 64 12 03 00 00 0A"));
+    assert_eq!(metric, dump(&push_hex(0, "12 03 00 00 0A")));
+    assert_eq!(dumped(&octets("05 00 00 00 64")), "0 0 0 0\n");
+}
+
+#[test]
+fn a_refusal_prints_the_first_line_only() {
+    assert_eq!(dumped(&[]), "10 0 0 0\n");
+    assert_eq!(dumped(&octets("06 00 00 00 64 12")), "1 0 0 0\n");
+    assert_eq!(dumped(&octets("00 FF FF FF FF 12")), "3 0 0 0\n");
+}
+
+#[test]
+fn an_input_under_5_octets_gets_answer_10() {
+    for head in ["", "00", "06 00", "00 00 00", "FF FF FF FF"] {
+        assert_eq!(first_line(head, 0), "10 0 0 0");
+    }
+    assert_eq!(first_line("00 00 00 00 00", 0), "0 0 0 0");
+}
+
+#[test]
+fn an_area_over_512_octets_gets_answer_10() {
+    assert_eq!(first_line("00 00 00 00 00", 512), "0 512 1025 1025");
+    for head in ["00 00 00 00 00", "06 00 00 00 00", "00 FF FF FF FF"] {
+        assert_eq!(first_line(head, 513), "10 0 0 0");
+        assert_eq!(first_line(head, 70_000), "10 0 0 0");
+    }
+}
+
+#[test]
+fn a_registry_over_5_gets_answer_1_even_where_the_area_does_not_fit() {
+    for head in ["06 00 00 00 00", "07 00 00 00 64", "FF FF FF FF FF"] {
+        for zeros in [0, 1, 512] {
+            assert_eq!(first_line(head, zeros), "1 0 0 0");
+        }
+    }
+}
+
+#[test]
+fn an_area_past_the_greatest_place_gets_answer_3() {
+    assert_eq!(first_line("00 FF FF FF FA", 5), "0 4 10 10");
+    assert_eq!(first_line("00 FF FF FF FA", 6), "3 0 0 0");
+    assert_eq!(first_line("00 FF FF FF FF", 0), "0 0 0 0");
+    assert_eq!(first_line("00 FF FF FF FF", 1), "3 0 0 0");
 }

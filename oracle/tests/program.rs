@@ -105,7 +105,52 @@ fn a_registry_over_5_is_refused() {
 
 #[test]
 fn other_words_print_the_usage() {
-    for words in [&[][..], &["dump"], &["push", "names"], &["--help"]] {
+    for words in [&[][..], &["judge"], &["push", "names"], &["--help"]] {
         assert_refuses(words, &[], "usage: oracle push");
     }
+}
+
+#[test]
+fn dump_prints_what_the_dump_program_is_to_print() {
+    let input = [&METRIC[..5], &METRIC[9..]].concat();
+    assert_prints(&["dump"], &input, LISTING);
+    assert_prints(&["dump"], &[], "10 0 0 0\n");
+}
+
+/// The words that let a shell's script be judged; its `"$0"` is the program.
+fn judge_script(script: &str) -> [&str; 5] {
+    ["judge", "sh", "-c", script, env!("CARGO_BIN_EXE_oracle")]
+}
+
+/// Asserts that a script is judged to be wrong, with this on standard error alone.
+fn assert_judged_wrong(script: &str, message: &str) {
+    let output = run(&judge_script(script), &[]);
+    assert_eq!(String::from_utf8_lossy(&output.stdout), "");
+    let said = String::from_utf8_lossy(&output.stderr);
+    assert!(said.contains(message), "of {script}: {said}");
+    assert_eq!(output.status.code(), Some(1));
+}
+
+#[test]
+fn judge_accepts_a_right_program_which_need_not_read_all() {
+    let count = oracle::dump_inputs().len();
+    let text = format!("{count} inputs, each printed as the Rust and document 01 say\n");
+    let program = env!("CARGO_BIN_EXE_oracle");
+    assert_prints(&["judge", program, "dump"], &[], &text);
+    let reads_518_octets = judge_script("head -c 518 | \"$0\" dump");
+    assert_prints(&reads_518_octets, &[], &text);
+}
+
+#[test]
+fn judge_refuses_a_wrong_program() {
+    assert_judged_wrong("", "line 1 printed:  nothing");
+    assert_judged_wrong("\"$0\" dump | head -n 9", "line 10 printed:  nothing");
+    assert_judged_wrong("\"$0\" dump; echo", "line 2 printed:  \"\\n\"");
+    assert_judged_wrong("\"$0\" dump; exit 3", "ended with status 3, not 0");
+    assert_judged_wrong("kill -9 $$", "a signal ended the program");
+}
+
+#[test]
+fn judge_says_that_a_program_cannot_be_run() {
+    assert_refuses(&["judge", "./no such program"], &[], "./no such program: ");
 }

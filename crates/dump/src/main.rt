@@ -6,8 +6,62 @@ use libc::STDIN_FILENO;
 use libc::STDOUT_FILENO;
 use octets::read::octet;
 use octets::read::read_be_u32;
+use outcome::Outcome;
 use tape::Octet;
 use tape::Position;
+use tape::Record;
+ghost use mathlib.Core.Path.{_≡_};
+ghost use Rattle.outcome.specs.Call.{Gives};
+ghost use Rattle.calls.specs.Calls.{readCall};
+ghost use Rattle.meaning.specs.Dump.{dumpCall, columns};
+
+// The answer to an input under 5 octets, or with an area over `LONGEST`.
+const NOT_TAKEN: u8 = 10;
+
+// The longest area that is taken.
+const LONGEST: usize = 512;
+
+// What the program answers to its input: 10 by its length, or a push of its area onto the tape.
+fn dump_call(input: &[u8], tape: &mut [u64]) -> Outcome
+    ensures { λ r. ⌜ Gives (dumpCall (now (input .entry)) (now (tape .entry))) r (now (tape .exit)) ⌝ }
+{
+    let n = input.len();
+    if n < 5 {
+        return Outcome::refused(NOT_TAKEN);
+    }
+    if LONGEST < n - 5 {
+        return Outcome::refused(NOT_TAKEN);
+    }
+    let registry = octet(input, 0) as u64;
+    let base = read_be_u32(input, 1) as usize;
+    subtlv::push(&input[5..], Octet(base), registry, tape)
+}
+
+// The columns of a record: position, label, shape, registry, words 1 to 5.
+fn columns(r: Record, at: usize) -> [u64; 9]
+    ensures { λ line. ⌜ line ≡ columns at r ⌝ }
+{
+    [
+        at as u64,
+        r.label(),
+        r.shape(),
+        r.registry(),
+        r.start.0 as u64,
+        r.end.0 as u64,
+        r.number,
+        r.first.0 as u64,
+        r.past.0 as u64,
+    ]
+}
+
+// The columns of the record at a position.
+fn columns_at(tape: &[u64], at: usize) -> [u64; 9]
+    ensures { λ line. ⌜ line ≡ columns at (readCall (now (tape .entry)) at .«record») ⌝ }
+{
+    let reading = read(tape, Position(at));
+    let record = reading.record;
+    columns(record, at)
+}
 
 // Prints numbers on one line, a space between two.
 fn print_line(numbers: &[u64]) {
@@ -22,53 +76,26 @@ fn print_line(numbers: &[u64]) {
     io::write_all(STDOUT_FILENO, b"\n");
 }
 
-// Prints the record at a position: position, label, shape, registry, words 1 to 5.
-fn print_record(tape: &[u64], at: usize) {
-    let reading = read(tape, Position(at));
-    let record = reading.record;
-    let words = record.words();
-    let line = [
-        at as u64,
-        record.label(),
-        record.shape(),
-        record.registry(),
-        words[1],
-        words[2],
-        words[3],
-        words[4],
-        words[5],
-    ];
-    print_line(&line);
-}
-
-// Pushes the area and prints what the call gives, then the records.
-fn dump(registry: u64, base: usize, area: &[u8]) {
-    // Room for the 1 + 7 * 512 / 3 records that 512 octets can need.
-    let mut tape = [0u64; 7174];
-    clear(&mut tape);
-    let outcome = subtlv::push(area, Octet(base), registry, &mut tape);
+// Prints what the call gave, then the records.
+fn print_all(outcome: Outcome, tape: &[u64]) {
     let written = outcome.written;
     let numbers = outcome.numbers();
     print_line(&numbers);
     let mut at = 0;
     while at < written {
-        print_record(&tape, at);
+        let line = columns_at(tape, at);
+        print_line(&line);
         at += 1;
     }
 }
 
-// The input, where it has 5 octets and an area of 512 at most; 10 otherwise.
+// Reads one octet more than is taken, to tell a longer input.
 fn main() {
     let mut input = [0u8; 518];
     let n = io::read_full(STDIN_FILENO, &mut input);
-    if n < 5 {
-        print_line(&[10, 0, 0, 0]);
-        return;
-    }
-    if 517 < n {
-        print_line(&[10, 0, 0, 0]);
-        return;
-    }
-    let base = read_be_u32(&input, 1) as usize;
-    dump(octet(&input, 0) as u64, base, &input[5..n]);
+    // Room for the 1 + 7 * 512 / 3 records that 512 octets can need.
+    let mut tape = [0u64; 7174];
+    clear(&mut tape);
+    let outcome = dump_call(&input[..n], &mut tape);
+    print_all(outcome, &tape);
 }

@@ -17,7 +17,7 @@ use Rattle.meaning.specs.Array.{elementTrees, arrayOf}
 use Rattle.meaning.specs.Value.{fieldEnd, taken, pushBy, fieldTrees, fieldsTrees, valueTrees}
 use Rattle.meaning.specs.Area.{entryTrees, walkTrees, innerWalk, walked, pushed}
 use Rattle.meaning.specs.AreaCall.{appended, fitted, callIn}
-use Rattle.meaning.specs.Examples.Example.{Case, given, wanted, typesRead}
+use Rattle.meaning.specs.Examples.Example.{Case, computed, wanted, typesRead}
 use Rattle.meaning.specs.Examples.Cases.{cases, others}
 use Rattle.meaning.specs.Examples.RustCases.{rustCases, rustTypes}
 pub mod Example
@@ -26,7 +26,7 @@ pub mod RustCases
 
 -- what the definitions give is what the examples say
 abbrev pub Hold : List Case → Type 0
-Hold list = map given list ≡ map wanted list
+Hold list = map computed list ≡ map wanted list
 
 -- all at once: document 01's [P] cases, its others, and what the Rust of docs/src shows
 pub hold : Hold cases × Hold others × Hold rustCases

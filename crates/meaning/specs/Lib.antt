@@ -19,4 +19,6 @@ pub mod Area
 pub mod AreaLaws
 pub mod AreaCall
 pub mod AreaCallLaws
+pub mod Dump
+pub mod DumpLaws
 pub mod Examples

@@ -1,8 +1,10 @@
 -- When a call gives which answer: the lines of a table, and the checks in their order.
 use mathlib.Core.Path.{_≡_}
 use mathlib.Core.Logic.{_⊎_}
+use mathlib.Core.Bool.{Bool, true, false, not, _&&_, _||_}
 use mathlib.Core.List.{List, [], _∷_}
-use Prim.Native.Nat.{ℕ, _<_}
+use Prim.Native.Nat.{ℕ}
+use lib.Dec.{eqb}
 use Rattle.outcome.specs.Call.{After}
 
 -- a line of the table: its number, and when it holds
@@ -20,10 +22,24 @@ unfoldable pub None : List Line → Type 0
 None [] = Unit {0}
 None (l ∷ ls) = (¬ l .when) × None ls
 
--- the numbers rise from line to line, the first above k
-unfoldable pub Rising : ℕ → List Line → Type 0
-Rising k [] = Unit {0}
-Rising k (l ∷ ls) = (k < l .number) × Rising (l .number) ls
+-- n is one of some numbers
+unfoldable pub isOneOf : ℕ → List ℕ → Bool
+isOneOf n [] = false
+isOneOf n (m ∷ ms) = eqb n m || isOneOf n ms
+
+-- numbers of which none is 0 and no two are the same
+unfoldable pub areDistinct : List ℕ → Bool
+areDistinct [] = true
+areDistinct (n ∷ ns) = not (isOneOf n (0 ∷ ns)) && areDistinct ns
+
+-- the numbers of lines
+abbrev pub numbersIn : List Line → List ℕ
+numbersIn [] = []
+numbersIn (l ∷ ls) = l .number ∷ numbersIn ls
+
+-- lines with distinct numbers
+abbrev pub Distinct : List Line → Type 0
+Distinct ls = areDistinct (numbersIn ls) ≡ true
 
 -- what a call gave and left: the answer is the lines', and a refusal gives 0 covered and 0 written, needed 0 except under 5, and changes no lent word or octet
 pub record Answered (lines : List Line) (lent : List ℕ) (after : After) : Type 0 where

@@ -1,29 +1,53 @@
 -- Each answer comes when its line says so, and only then; and the checks by which a call is shown to answer so.
-use mathlib.Core.Path.{_≡_, refl, sym, subst}
+use mathlib.Core.Path.{_≡_, refl, sym, _∙_, subst}
 use mathlib.Core.Logic.{_⊎_, inl, inr, ⊎-elim, _↔_}
-use mathlib.Core.Bool.{Bool, true, false, true≢false, _&&_, cond}
+use mathlib.Core.Bool.{Bool, true, false, true≢false, not, _&&_, _||_, cond, or-true, and-eq-true-iff}
 use mathlib.Core.List.{List, [], _∷_, _++_}
 use Prim.Native.Nat.{ℕ, _≤_, _<_}
 use native.Mathlib.Omega.{arith}
-use borrow.Author.Tests.{leb-true, leb-false, ltb-true, ltb-false, eqb-true, eqb-false}
+use borrow.Author.Tests.{leb-true, leb-false, ltb-true, ltb-false, eqb-true, eqb-false, eq-eqb, not-true}
 use lib.Dec.{leb, ltb, eqb}
 use Rattle.outcome.specs.Call.{After, Gives, refusal, noRoom}
 use Rattle.outcome.specs.CallLaws.{gives-after}
-use Rattle.outcome.specs.Answers.{Line, Answer, None, Rising, Answered}
+use Rattle.outcome.specs.Answers.{Line, Answer, None, isOneOf, areDistinct, numbersIn, Distinct, Answered}
 use Rattle.outcome.specs.declared.Outcome.{Outcome}
 
 -- when, and only then
 
--- an answer is 0, or above what the numbers rise from
-rises : (ls : List Line) (k n : ℕ) → Rising k ls → Answer ls n → (n ≡ 0) ⊎ (k < n)
-unfolding Rising Answer
-rises [] k n up is = inl is
-rises (l ∷ ls) k n up (inl here) = inr (omega (arith, up .0, here .1))
-rises (l ∷ ls) k n up (inr later) = go (rises ls (l .number) n (up .1) (later .1))
-  where
-    go : (n ≡ 0) ⊎ (l .number < n) → (n ≡ 0) ⊎ (k < n)
-    go (inl zero) = inl zero
-    go (inr above) = inr (omega (arith, up .0))
+-- one of some numbers
+module _ (n m : ℕ) (ms : List ℕ) where
+  is-first : n ≡ m → isOneOf n (m ∷ ms) ≡ true
+  unfolding isOneOf
+  is-first same = rw (eq-eqb n m same)
+
+  is-later : isOneOf n ms ≡ true → isOneOf n (m ∷ ms) ≡ true
+  unfolding isOneOf
+  is-later later = rw later (or-true (eqb n m))
+
+  -- with one more behind the first
+  is-still : (k : ℕ) → isOneOf n (m ∷ ms) ≡ true → isOneOf n (m ∷ k ∷ ms) ≡ true
+  unfolding isOneOf
+  is-still k = go (eqb n m)
+    where
+      go : (b : Bool) → (b || isOneOf n ms) ≡ true → (b || isOneOf n (k ∷ ms)) ≡ true
+      go true here = refl
+      go false later = rw later (or-true (eqb n k))
+
+-- of distinct numbers the first is neither 0 nor a later one
+first-apart : (n : ℕ) (ns : List ℕ) → areDistinct (n ∷ ns) ≡ true → isOneOf n (0 ∷ ns) ≡ true → ⊥
+unfolding areDistinct
+first-apart n ns apart again = true≢false (sym again ∙ not-true _ (and-eq-true-iff (not (isOneOf n (0 ∷ ns))) (areDistinct ns) .0 apart .0))
+
+later-apart : (n : ℕ) (ns : List ℕ) → areDistinct (n ∷ ns) ≡ true → areDistinct ns ≡ true
+unfolding areDistinct
+later-apart n ns apart = and-eq-true-iff (not (isOneOf n (0 ∷ ns))) (areDistinct ns) .0 apart .1
+
+-- an answer is 0 or a line's number
+answer-one-of : (ls : List Line) (n : ℕ) → Answer ls n → isOneOf n (0 ∷ numbersIn ls) ≡ true
+unfolding Answer
+answer-one-of [] n is = is-first n 0 [] is
+answer-one-of (l ∷ ls) n (inl here) = is-later n 0 (numbersIn (l ∷ ls)) (is-first n (l .number) (numbersIn ls) (here .1))
+answer-one-of (l ∷ ls) n (inr past) = is-still n 0 (numbersIn ls) (l .number) (answer-one-of ls n (past .1))
 
 -- 0 where no line holds
 done-when : (ls : List Line) (n : ℕ) → Answer ls n → None ls → n ≡ 0
@@ -33,13 +57,18 @@ done-when (l ∷ ls) n (inl here) none = absurd (none .0 (here .0))
 done-when (l ∷ ls) n (inr later) none = done-when ls n (later .1) (none .1)
 
 -- and only there
-done-only-then : (ls : List Line) (k n : ℕ) → Rising k ls → Answer ls n → n ≡ 0 → None ls
-unfolding Rising Answer None
-done-only-then [] k n up is zero = tt
-done-only-then (l ∷ ls) k n up (inl here) zero = absurd (omega (arith, up .0, here .1))
-done-only-then (l ∷ ls) k n up (inr later) zero = (later .0, done-only-then ls (l .number) n (up .1) (later .1) zero)
+done-only-then : (ls : List Line) (n : ℕ) → Distinct ls → Answer ls n → n ≡ 0 → None ls
+unfolding Answer None
+done-only-then [] n apart is zero = tt
+done-only-then (l ∷ ls) n apart (inl here) zero = absurd (first-apart (l .number) (numbersIn ls) apart (is-first (l .number) 0 (numbersIn ls) (sym (here .1) ∙ zero)))
+done-only-then (l ∷ ls) n apart (inr past) zero = (past .0, done-only-then ls n (later-apart (l .number) (numbersIn ls) apart) (past .1) zero)
 
 module _ (l : Line) (later : List Line) where
+  -- a line's number is one of the lines'
+  own-number : (earlier : List Line) → isOneOf (l .number) (0 ∷ numbersIn (earlier ++ l ∷ later)) ≡ true
+  own-number [] = is-later (l .number) 0 (numbersIn (l ∷ later)) (is-first (l .number) (l .number) (numbersIn later) refl)
+  own-number (e ∷ es) = is-still (l .number) 0 (numbersIn (es ++ l ∷ later)) (e .number) (own-number es)
+
   -- a line's number where it holds and no line before it
   comes-when : (earlier : List Line) (n : ℕ) → Answer (earlier ++ l ∷ later) n → None earlier → l .when → n ≡ l .number
   unfolding Answer None
@@ -48,33 +77,26 @@ module _ (l : Line) (later : List Line) where
   comes-when (e ∷ es) n (inl here) none holds = absurd (none .0 (here .0))
   comes-when (e ∷ es) n (inr past) none holds = comes-when es n (past .1) (none .1) holds
 
-  -- a later line has a higher number
-  higher : (earlier : List Line) (k : ℕ) → Rising k (earlier ++ l ∷ later) → k < l .number
-  unfolding Rising
-  higher [] k up = up .0
-  higher (e ∷ es) k up = omega (arith, up .0, higher es (e .number) (up .1))
-
   -- and only there
-  comes-only-then : (earlier : List Line) (k n : ℕ) → Rising k (earlier ++ l ∷ later) → Answer (earlier ++ l ∷ later) n → n ≡ l .number → None earlier × l .when
-  unfolding Rising Answer None
-  comes-only-then [] k n up (inl here) is = (tt, here .0)
-  comes-only-then [] k n up (inr past) is = absurd (above (rises later (l .number) n (up .1) (past .1)))
-    where
-      above : (n ≡ 0) ⊎ (l .number < n) → ⊥
-      above (inl zero) = omega (arith, up .0, is)
-      above (inr more) = omega (arith, is)
-  comes-only-then (e ∷ es) k n up (inl here) is = absurd (omega (arith, higher es (e .number) (up .1), here .1, is))
-  comes-only-then (e ∷ es) k n up (inr past) is =
-      let r = comes-only-then es (e .number) n (up .1) (past .1) is in
+  comes-only-then : (earlier : List Line) (n : ℕ) → Distinct (earlier ++ l ∷ later) → Answer (earlier ++ l ∷ later) n → n ≡ l .number → None earlier × l .when
+  unfolding Answer None
+  comes-only-then [] n apart (inl here) is = (tt, here .0)
+  comes-only-then [] n apart (inr past) is =
+      absurd (first-apart (l .number) (numbersIn later) apart (subst (λ (k : ℕ). isOneOf k (0 ∷ numbersIn later) ≡ true) is (answer-one-of later n (past .1))))
+  comes-only-then (e ∷ es) n apart (inl here) is =
+      let same : l .number ≡ e .number = sym is ∙ here .1 in
+      absurd (first-apart (e .number) (numbersIn (es ++ l ∷ later)) apart (subst (λ (k : ℕ). isOneOf k (0 ∷ numbersIn (es ++ l ∷ later)) ≡ true) same (own-number es)))
+  comes-only-then (e ∷ es) n apart (inr past) is =
+      let r = comes-only-then es n (later-apart (e .number) (numbersIn (es ++ l ∷ later)) apart) (past .1) is in
       ((past .0, r .0), r .1)
 
   -- so the answer is a line's number exactly where it holds and no line before it
-  pub exactly : (earlier : List Line) (n : ℕ) → Rising 0 (earlier ++ l ∷ later) → Answer (earlier ++ l ∷ later) n → (n ≡ l .number) ↔ (None earlier × l .when)
-  exactly earlier n up is = (comes-only-then earlier 0 n up is, λ holds. comes-when earlier n is (holds .0) (holds .1))
+  pub exactly : (earlier : List Line) (n : ℕ) → Distinct (earlier ++ l ∷ later) → Answer (earlier ++ l ∷ later) n → (n ≡ l .number) ↔ (None earlier × l .when)
+  exactly earlier n apart is = (comes-only-then earlier n apart is, λ holds. comes-when earlier n is (holds .0) (holds .1))
 
 -- and 0 exactly where none holds
-pub exactly-done : (ls : List Line) (n : ℕ) → Rising 0 ls → Answer ls n → (n ≡ 0) ↔ None ls
-exactly-done ls n up is = (done-only-then ls 0 n up is, done-when ls n is)
+pub exactly-done : (ls : List Line) (n : ℕ) → Distinct ls → Answer ls n → (n ≡ 0) ↔ None ls
+exactly-done ls n apart is = (done-only-then ls n apart is, done-when ls n is)
 
 -- tests
 

@@ -10,7 +10,7 @@ use Rattle.outcome.specs.Call.{Gives, refused, refusal}
 use Rattle.outcome.specs.declared.Outcome.{Outcome}
 use Rattle.octets.specs.Copy.{inFront}
 use Rattle.registry.specs.Names.{nameOf}
-use Rattle.registry.specs.NameCall.{done, named, nameIn}
+use Rattle.registry.specs.NameCall.{nameWritten, named, nameIn}
 use Rattle.registry.specs.declared.Registry.{Registry}
 use Rattle.registry.specs.declared.Found.{Found}
 use Rattle.registry.specs.declared.Found.the-variants.{Known, Unknown}
@@ -23,7 +23,7 @@ unfolding named
 named-longer name lent longer = rw (lt-leb (length name) (length lent) longer)
 
 -- a name that fits
-named-fits : (name lent : List ℕ) → length name ≤ length lent → named name lent ≡ done name lent
+named-fits : (name lent : List ℕ) → length name ≤ length lent → named name lent ≡ nameWritten name lent
 unfolding named
 named-fits name lent fits = rw (le-leb (length name) (length lent) fits)
 
@@ -42,7 +42,7 @@ named-inside name lent (no longer) = rw (named-longer name lent (omega arith)) (
 pub found-longer : {name found : List ℕ} (lent : List ℕ) {r : Outcome} → found ≡ name → length lent < length found → r ≡ refused 9 → Gives (named name lent) r lent
 found-longer {name} lent is longer gave = rw (named-longer name lent (rw is at longer)) (record { gave = gave; left = refl })
 
-pub found-fits : {name found : List ℕ} (lent : List ℕ) {exit : List ℕ} → found ≡ name → length found ≤ length lent → exit ≡ inFront found lent → Gives (named name lent) (done found lent .outcome) exit
+pub found-fits : {name found : List ℕ} (lent : List ℕ) {exit : List ℕ} → found ≡ name → length found ≤ length lent → exit ≡ inFront found lent → Gives (named name lent) (nameWritten found lent .outcome) exit
 found-fits {name} lent is fits front = rw (named-fits name lent (rw is at fits)) (record { gave = rw is; left = rw is at front })
 
 -- nameIn

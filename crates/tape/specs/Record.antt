@@ -19,8 +19,8 @@ abbrev pub shapeOf : Record → ℕ
 shapeOf r = r .tag / 256 % 256
 
 -- the registry in word 0
-abbrev pub registryOf : Record → ℕ
-registryOf r = r .tag / 65536
+abbrev pub registryIn : Record → ℕ
+registryIn r = r .tag / 65536
 
 -- the shapes of containers: 7 Array, 8 Object
 abbrev pub holds : ℕ → Bool
@@ -37,7 +37,7 @@ leafRecord m = containerRecord m 0 0
 
 -- a record without its positions, as its words say
 abbrev pub contentOf : Record → Content
-contentOf r = record { label = labelOf r; shape = shapeOf r; registry = registryOf r; start = r .start; end = r .end; number = r .number }
+contentOf r = record { label = labelOf r; shape = shapeOf r; registry = registryIn r; start = r .start; end = r .end; number = r .number }
 
 -- a child's position, d further on; 0 says that there is none
 abbrev pub later : ℕ → ℕ → ℕ

@@ -2,7 +2,7 @@
 use mathlib.Core.Path.{_≡_}
 use Prim.Native.Nat.{ℕ, _+_, _*_, _/_, _%_, _<_}
 use native.Mathlib.Omega.{arith}
-use Rattle.tape.specs.Record.{labelOf, shapeOf, registryOf, containerRecord, contentOf}
+use Rattle.tape.specs.Record.{labelOf, shapeOf, registryIn, containerRecord, contentOf}
 use Rattle.tape.specs.declared.Content.{Content}
 use Rattle.tape.specs.declared.Record.{Record}
 
@@ -14,7 +14,7 @@ module _ (m : Content) (first past : ℕ) (label : m .label < 256) where
   pub shape-made : m .shape < 256 → shapeOf (containerRecord m first past) ≡ m .shape
   shape-made shape = omega arith
 
-  pub registry-made : m .shape < 256 → registryOf (containerRecord m first past) ≡ m .registry
+  pub registry-made : m .shape < 256 → registryIn (containerRecord m first past) ≡ m .registry
   registry-made shape = omega arith
 
 -- every record is made of what is read from it

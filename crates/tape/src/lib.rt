@@ -1,6 +1,6 @@
 // The tape (document 01, 'The tape'): a lent slice of words, four of header and then records of six.
 ghost use mathlib.Core.Path.{_≡_};
-ghost use Rattle.tape.specs.Record.{labelOf, shapeOf, registryOf, leafRecord, containerRecord, zeros, words};
+ghost use Rattle.tape.specs.Record.{labelOf, shapeOf, registryIn, leafRecord, containerRecord, zeros, words};
 
 pub mod label;
 pub mod shape;
@@ -101,7 +101,7 @@ impl Record {
 
     // Its registry, out of word 0.
     pub fn registry(self) -> u64
-        ensures { λ r. ⌜ r ≡ registryOf self ⌝ }
+        ensures { λ r. ⌜ r ≡ registryIn self ⌝ }
     {
         self.tag / 65536
     }

@@ -2,7 +2,7 @@
 use mathlib.Core.Path.{_≡_}
 use mathlib.Core.Logic.{_⊎_}
 use mathlib.Core.List.{List, [], _∷_}
-use Prim.Native.Nat.{ℕ, _+_, _-_, _≤_, _<_}
+use Prim.Native.Nat.{ℕ, suc, _+_, _*_, _-_, _≤_, _<_}
 use lib.ListN.{length, getD}
 use Rattle.outcome.specs.Answers.{Line}
 use Rattle.registry.specs.Registry.{registryOf}
@@ -13,7 +13,11 @@ use Rattle.tape.specs.Record.{labelOf, shapeOf}
 use Rattle.tape.specs.Tape.{used, room, recordAt}
 use Rattle.tape.specs.Forest.{size}
 use Rattle.tape.specs.declared.Record.{Record}
+use Rattle.calls.specs.Limits.{lastLabel, lastShape, lastRegistry}
+use Rattle.meaning.specs.Table.{usual}
 use Rattle.meaning.specs.Value.{Walk}
+use Rattle.meaning.specs.Area.{pushed}
+use Rattle.meaning.specs.Dump.{inputRegistry, inputBase, inputArea, longestDumped}
 
 -- the lines
 
@@ -57,13 +61,21 @@ markPast mark t = record { number = 6; when = used t < mark }
 abbrev pub cutsThrough : ℕ → List ℕ → Line
 cutsThrough mark t = record { number = 7; when = (i : ℕ) × (i < mark) × (mark < recordAt t i .past .0) }
 
--- 8: record read has label over 56, shape over 8, word 0 at or over 393,216, or start after end
+-- 8: record read has label over 56, shape over 8, word 0 at or over 393,216 (registry over 5), or start after end
 abbrev pub unreadable : Record → Line
-unreadable r = record { number = 8; when = (56 < labelOf r) ⊎ ((8 < shapeOf r) ⊎ ((393216 ≤ r .tag) ⊎ (r .end .0 < r .start .0))) }
+unreadable r =
+    record {
+      number = 8;
+      when = (lastLabel < labelOf r) ⊎ ((lastShape < shapeOf r) ⊎ ((65536 * suc lastRegistry ≤ r .tag) ⊎ (r .end .0 < r .start .0)));
+    }
 
 -- 9: name longer than the lent octets
 abbrev pub nameLonger : List ℕ → List ℕ → Line
 nameLonger name lent = record { number = 9; when = length lent < length name }
+
+-- 10, the dump program's own: input under 5 octets or area over 512
+abbrev pub notTaken : List ℕ → Line
+notTaken input = record { number = 10; when = (length input < 5) ⊎ (longestDumped < length (inputArea input)) }
 
 -- the calls, each with its lines in the order of the checks
 
@@ -92,3 +104,7 @@ cutBackLines t mark = noTape t ∷ markPast mark t ∷ cutsThrough mark t ∷ []
 -- read: 4, 6, 8
 abbrev pub readLines : List ℕ → ℕ → List Line
 readLines t at = noTape t ∷ notThere at t ∷ unreadable (recordAt t at) ∷ []
+
+-- the dump program: 10, and then as push
+abbrev pub dumpLines : List ℕ → List ℕ → List Line
+dumpLines input t = notTaken input ∷ areaLines (pushed usual) (inputRegistry input) (inputArea input) (inputBase input) t

@@ -3,33 +3,36 @@ use mathlib.Core.Path.{_≡_, refl, sym, ap, _∙_, subst}
 use mathlib.Core.Logic.{_⊎_, inl, inr}
 use mathlib.Core.Bool.{Bool, true, false, cond}
 use mathlib.Core.List.{List, []}
-use Prim.Native.Nat.{ℕ, _+_, _-_, _≤_, _<_}
+use Prim.Native.Nat.{ℕ, suc, _+_, _*_, _-_, _≤_, _<_}
 use native.Mathlib.Decide.{decLe}
 use native.Mathlib.Omega.{arith}
 use lib.Dec.{leb, ltb, eqb}
 use lib.ListN.{length, getD}
-use Rattle.outcome.specs.Call.{Gives, finished}
-use Rattle.outcome.specs.Call.{done as nothing}
-use Rattle.outcome.specs.Answers.{Rising, Answered}
+use Rattle.outcome.specs.Call.{Gives, done, finished}
+use Rattle.outcome.specs.Answers.{isOneOf, areDistinct, Distinct, Answered}
 use Rattle.outcome.specs.AnswersLaws.{Fails, fails-leb, fails-ltb, fails-eqb, fails-and, answered-done, answered-past, answered-refused, answered-check, answered-room, answered-run}
 use Rattle.outcome.specs.declared.Outcome.{Outcome}
 use Rattle.registry.specs.Registry.{numberOf, registryOf}
 use Rattle.registry.specs.RegistryLaws.{registryOf-number, registryOf-past, numbered}
 use Rattle.registry.specs.Names.{nameOf}
-use Rattle.registry.specs.NameCall.{done, named, nameIn, nameCall}
+use Rattle.registry.specs.NameCall.{nameWritten, named, nameIn, nameCall}
 use Rattle.registry.specs.declared.Registry.{Registry}
 use Rattle.registry.specs.declared.Found.the-variants.{Known, Unknown}
 use Rattle.tape.specs.Record.{labelOf, shapeOf, zeros}
 use Rattle.tape.specs.Tape.{used, room, headed, withUsed, recordAt, load}
 use Rattle.tape.specs.Forest.{Forest, size}
 use Rattle.tape.specs.declared.Record.{Record}
+use Rattle.calls.specs.Limits.{lastLabel, lastShape, lastRegistry}
 use Rattle.calls.specs.Calls.{cleared, clearCall, endBy, cutBackCall, readable, noRecord, readCall}
 use Rattle.calls.specs.CallsLaws.{fails-cut}
 use Rattle.calls.specs.declared.Reading.{Reading}
 use Rattle.meaning.specs.Frame.{covered}
+use Rattle.meaning.specs.Table.{usual}
 use Rattle.meaning.specs.Value.{Walk}
-use Rattle.theorems.specs.Answers.{noRegistry, tooLong, tooFar, noTape, noHeader, tooMany, notThere, markPast, cutsThrough, unreadable, nameLonger, areaLines, nameLines, clearLines, cutBackLines, readLines}
+use Rattle.meaning.specs.Area.{pushed}
+use Rattle.theorems.specs.Answers.{noRegistry, tooLong, tooFar, noTape, noHeader, tooMany, notThere, markPast, cutsThrough, unreadable, nameLonger, notTaken, areaLines, nameLines, clearLines, cutBackLines, readLines, dumpLines}
 use Rattle.meaning.specs.AreaCall.{longest, furthest, shown, fitted, callIn, areaCall}
+use Rattle.meaning.specs.Dump.{inputRegistry, inputBase, inputArea, longestDumped, dumpCall}
 
 -- the tests of the definitions fail where the lines hold
 
@@ -46,9 +49,10 @@ fails-headed t =
 fails-readable : (r : Record) → Fails (readable r) (unreadable r .when)
 unfolding readable
 fails-readable r =
-    fails-and (leb (labelOf r) 56) _ (fails-leb (labelOf r) 56)
-    (fails-and (leb (shapeOf r) 8) _ (fails-leb (shapeOf r) 8)
-    (fails-and (ltb (r .tag) 393216) _ (fails-ltb (r .tag) 393216) (fails-leb (r .start .0) (r .end .0))))
+    let past : ℕ = 65536 * suc lastRegistry in
+    fails-and (leb (labelOf r) lastLabel) _ (fails-leb (labelOf r) lastLabel)
+    (fails-and (leb (shapeOf r) lastShape) _ (fails-leb (shapeOf r) lastShape)
+    (fails-and (ltb (r .tag) past) _ (fails-ltb (r .tag) past) (fails-leb (r .start .0) (r .end .0))))
 
 -- clear
 
@@ -60,9 +64,9 @@ module _ (t : List ℕ) where
   pub clear-answered : (o : Outcome) (x : List ℕ) → Gives (clearCall t) o x → Answered (clearLines t) t (record { outcome = o; lent = x })
   clear-answered o x ran = answered-run (clearLines t) t o x ran clear-lines
 
-  pub clear-rising : Rising 0 (clearLines t)
-  unfolding Rising
-  clear-rising = (omega arith, tt)
+  pub clear-distinct : Distinct (clearLines t)
+  unfolding isOneOf areDistinct
+  clear-distinct = refl
 
 -- cut back
 
@@ -77,9 +81,9 @@ module _ (t : List ℕ) (mark : ℕ) where
   pub cut-back-answered : (o : Outcome) (x : List ℕ) → Gives (cutBackCall t mark) o x → Answered (cutBackLines t mark) t (record { outcome = o; lent = x })
   cut-back-answered o x ran = answered-run (cutBackLines t mark) t o x ran cut-back-lines
 
-  pub cut-back-rising : Rising 0 (cutBackLines t mark)
-  unfolding Rising
-  cut-back-rising = (omega arith, (omega arith, (omega arith, tt)))
+  pub cut-back-distinct : Distinct (cutBackLines t mark)
+  unfolding isOneOf areDistinct
+  cut-back-distinct = refl
 
 -- read
 
@@ -93,7 +97,7 @@ module _ (t : List ℕ) (at : ℕ) where
   read-lines = go (headed t) (ltb at (used t)) (readable (recordAt t at)) (fails-headed t) (fails-ltb at (used t)) (fails-readable (recordAt t at))
     where
       go : (a b c : Bool) → Fails a (noTape t .when) → Fails b (notThere at t .when) → Fails c (unreadable (recordAt t at) .when)
-          → ReadAs (cond a (cond b (cond c (record { outcome = nothing; «record» = recordAt t at }) (noRecord 8)) (noRecord 6)) (noRecord 4))
+          → ReadAs (cond a (cond b (cond c (record { outcome = done; «record» = recordAt t at }) (noRecord 8)) (noRecord 6)) (noRecord 4))
       go false b c four six eight = (answered-refused (noTape t) _ t (four .0 refl), λ not. refl)
       go true false c four six eight = (answered-past (noTape t) _ t _ (four .1 refl) (answered-refused (notThere at t) _ t (six .0 refl)), λ not. refl)
       go true true false four six eight = (
@@ -103,7 +107,7 @@ module _ (t : List ℕ) (at : ℕ) where
       go true true true four six eight = (
         answered-past (noTape t) _ t _ (four .1 refl)
             (answered-past (notThere at t) _ t _ (six .1 refl)
-            (answered-past (unreadable (recordAt t at)) [] t _ (eight .1 refl) (answered-done t (record { outcome = nothing; lent = t }) refl))),
+            (answered-past (unreadable (recordAt t at)) [] t _ (eight .1 refl) (answered-done t (record { outcome = done; lent = t }) refl))),
         λ not. absurd (not refl),
       )
 
@@ -115,9 +119,9 @@ module _ (t : List ℕ) (at : ℕ) where
   pub read-zeros : (reading : Reading) → reading ≡ readCall t at → (¬ (reading .outcome .answer ≡ 0)) → reading .«record» ≡ zeros
   read-zeros reading is = rw is (read-lines .1)
 
-  pub read-rising : Rising 0 (readLines t at)
-  unfolding Rising
-  read-rising = (omega arith, (omega arith, (omega arith, tt)))
+  pub read-distinct : Distinct (readLines t at)
+  unfolding isOneOf areDistinct
+  read-distinct = refl
 
 -- name
 
@@ -144,15 +148,15 @@ module _ (registry t : ℕ) (lent : List ℕ) where
           let name : List ℕ = nameOf (x .0) t in
           rw (x .1)
           (answered-past (noRegistry registry) _ lent _ (λ past. omega (arith, x .3))
-          (answered-check (nameLonger name lent) [] (leb (length name) (length lent)) lent (done name lent) (fails-leb (length name) (length lent)) (answered-done lent (done name lent) refl)))
+          (answered-check (nameLonger name lent) [] (leb (length name) (length lent)) lent (nameWritten name lent) (fails-leb (length name) (length lent)) (answered-done lent (nameWritten name lent) refl)))
       go (inr x) = rw (x .0) (answered-refused (noRegistry registry) _ lent (x .1))
 
   pub name-answered : (o : Outcome) (x : List ℕ) → Gives (nameCall registry t lent) o x → Answered (nameLines registry t lent) lent (record { outcome = o; lent = x })
   name-answered o x ran = answered-run (nameLines registry t lent) lent o x ran name-lines
 
-  pub name-rising : Rising 0 (nameLines registry t lent)
-  unfolding Rising
-  name-rising = (omega arith, (omega arith, tt))
+  pub name-distinct : Distinct (nameLines registry t lent)
+  unfolding isOneOf areDistinct
+  name-distinct = refl
 
 -- walk and push
 
@@ -181,6 +185,25 @@ module _ (shows : Walk) (registry : ℕ) (area : List ℕ) (base : ℕ) (t : Lis
   pub area-answered : (o : Outcome) (x : List ℕ) → Gives (areaCall shows registry area base t) o x → Answered (areaLines shows registry area base t) t (record { outcome = o; lent = x })
   area-answered o x ran = answered-run (areaLines shows registry area base t) t o x ran area-lines
 
-  pub area-rising : Rising 0 (areaLines shows registry area base t)
-  unfolding Rising
-  area-rising = (omega arith, (omega arith, (omega arith, (omega arith, (omega arith, tt)))))
+  pub area-distinct : Distinct (areaLines shows registry area base t)
+  unfolding isOneOf areDistinct
+  area-distinct = refl
+
+-- the dump program
+
+module _ (input t : List ℕ) where
+  dump-lines : Answered (dumpLines input t) t (dumpCall input t)
+  unfolding dumpCall
+  dump-lines =
+      let five = fails-leb 5 (length input) in
+      let most = fails-leb (length (inputArea input)) longestDumped in
+      answered-check (notTaken input) _ _ t _ (fails-and (leb 5 (length input)) _ five most)
+      (area-lines (pushed usual) (inputRegistry input) (inputArea input) (inputBase input) t)
+
+  pub dump-answered : (o : Outcome) (x : List ℕ) → Gives (dumpCall input t) o x → Answered (dumpLines input t) t (record { outcome = o; lent = x })
+  dump-answered o x ran = answered-run (dumpLines input t) t o x ran dump-lines
+
+  -- 10 comes first, and 1 to 5 behind it
+  pub dump-distinct : Distinct (dumpLines input t)
+  unfolding isOneOf areDistinct
+  dump-distinct = refl

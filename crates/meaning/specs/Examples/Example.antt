@@ -15,53 +15,53 @@ abbrev emptyTape : ℕ → List ℕ
 emptyTape n = 0 ∷ 4 ∷ 6 ∷ 0 ∷ replicate (6 * n) 0
 
 -- a record as the dump program prints it, after its position: label, shape, registry, words 1 to 5
-pub data Line : Type 0 where
-  line : ℕ → ℕ → ℕ → ℕ → ℕ → ℕ → ℕ → ℕ → Line
+pub data Printed : Type 0 where
+  printed : ℕ → ℕ → ℕ → ℕ → ℕ → ℕ → ℕ → ℕ → Printed
 
 -- the words of records
-abbrev wordsOf : List Line → List ℕ
+abbrev wordsOf : List Printed → List ℕ
 wordsOf [] = []
-wordsOf (line label shape registry start end n first past ∷ lines) =
-    (label + 256 * shape + 65536 * registry) ∷ start ∷ end ∷ n ∷ first ∷ past ∷ wordsOf lines
+wordsOf (printed label shape registry start end n first past ∷ records) =
+    (label + 256 * shape + 65536 * registry) ∷ start ∷ end ∷ n ∷ first ∷ past ∷ wordsOf records
 
 -- an example: what is called, and what it is to give
 pub data Case : Type 0 where
   -- a push that is done, onto an empty tape with just the room that is needed: base, registry, area, octets covered, records
-  done : ℕ → ℕ → List ℕ → ℕ → List Line → Case
+  pushAt : ℕ → ℕ → List ℕ → ℕ → List Printed → Case
   -- a push that is refused: room of the empty tape, base, registry, area, answer, needed
-  refused : ℕ → ℕ → ℕ → List ℕ → ℕ → ℕ → Case
+  refusedPush : ℕ → ℕ → ℕ → List ℕ → ℕ → ℕ → Case
   -- a walk at base 100 that is done, onto an empty tape with just the room that is needed: registry, area, octets covered, records
-  walk : ℕ → List ℕ → ℕ → List Line → Case
+  walk : ℕ → List ℕ → ℕ → List Printed → Case
   -- a push at base 100 onto any tape: tape, registry, area, answer, covered, written, needed, tape afterwards
   onto : List ℕ → ℕ → List ℕ → ℕ → ℕ → ℕ → ℕ → List ℕ → Case
   -- a mask: bits, octets, octets afterwards
   mask : ℕ → List ℕ → List ℕ → Case
 
 -- a push at base 100
-abbrev pub push : ℕ → List ℕ → ℕ → List Line → Case
-push = done 100
+abbrev pub push : ℕ → List ℕ → ℕ → List Printed → Case
+push = pushAt 100
 
 -- the four numbers of a call, and every word of the tape afterwards
 abbrev all : After → List ℕ
 all after = numbersOf (after .outcome) ++ after .lent
 
 -- what the definitions give
-abbrev pub given : Case → List ℕ
-given (done base registry area octets lines) = all (pushCall registry area base (emptyTape (length lines)))
-given (refused room base registry area answer needed) = all (pushCall registry area base (emptyTape room))
-given (walk registry area octets lines) = all (walkCall registry area 100 (emptyTape (length lines)))
-given (onto tape registry area answer octets written needed after) = all (pushCall registry area 100 tape)
-given (mask bits before after) = masked bits before
+abbrev pub computed : Case → List ℕ
+computed (pushAt base registry area octets records) = all (pushCall registry area base (emptyTape (length records)))
+computed (refusedPush room base registry area answer needed) = all (pushCall registry area base (emptyTape room))
+computed (walk registry area octets records) = all (walkCall registry area 100 (emptyTape (length records)))
+computed (onto tape registry area answer octets written needed after) = all (pushCall registry area 100 tape)
+computed (mask bits before after) = masked bits before
 
 -- done, with just these records on the tape
-abbrev doneWith : ℕ → List Line → List ℕ
-doneWith octets lines = 0 ∷ octets ∷ length lines ∷ length lines ∷ length lines ∷ 4 ∷ 6 ∷ 0 ∷ wordsOf lines
+abbrev doneWith : ℕ → List Printed → List ℕ
+doneWith octets records = 0 ∷ octets ∷ length records ∷ length records ∷ length records ∷ 4 ∷ 6 ∷ 0 ∷ wordsOf records
 
 -- what the example says
 abbrev pub wanted : Case → List ℕ
-wanted (done base registry area octets lines) = doneWith octets lines
-wanted (refused room base registry area answer needed) = answer ∷ 0 ∷ 0 ∷ needed ∷ emptyTape room
-wanted (walk registry area octets lines) = doneWith octets lines
+wanted (pushAt base registry area octets records) = doneWith octets records
+wanted (refusedPush room base registry area answer needed) = answer ∷ 0 ∷ 0 ∷ needed ∷ emptyTape room
+wanted (walk registry area octets records) = doneWith octets records
 wanted (onto tape registry area answer octets written needed after) = answer ∷ octets ∷ written ∷ needed ∷ after
 wanted (mask bits before after) = after
 
