@@ -42,7 +42,8 @@ named-inside name lent (no longer) = rw (named-longer name lent (omega arith)) (
 pub found-longer : {name found : List ℕ} (lent : List ℕ) {r : Outcome} → found ≡ name → length lent < length found → r ≡ refused 9 → Gives (named name lent) r lent
 found-longer {name} lent is longer gave = rw (named-longer name lent (rw is at longer)) (record { gave = gave; left = refl })
 
-pub found-fits : {name found : List ℕ} (lent : List ℕ) {exit : List ℕ} → found ≡ name → length found ≤ length lent → exit ≡ inFront found lent → Gives (named name lent) (nameWritten found lent .outcome) exit
+pub found-fits : {name found : List ℕ} (lent : List ℕ) {exit : List ℕ} → found ≡ name → length found ≤ length lent → exit ≡ inFront found lent
+    → Gives (named name lent) (nameWritten found lent .outcome) exit
 found-fits {name} lent is fits front = rw (named-fits name lent (rw is at fits)) (record { gave = rw is; left = rw is at front })
 
 -- nameIn
