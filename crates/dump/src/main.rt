@@ -21,6 +21,12 @@ const NOT_TAKEN: u8 = 10;
 // The longest area that is taken.
 const LONGEST: usize = 512;
 
+// The octets that are read: one more than are taken, to tell a longer input.
+const READ: usize = 5 + LONGEST + 1;
+
+// The words of the tape: room for the 1 + 7n/3 records that the longest area can need.
+const WORDS: usize = 4 + 6 * (1 + 7 * LONGEST / 3);
+
 // What the program answers to its input: 10 by its length, or a push of its area onto the tape.
 fn dump_call(input: &[u8], tape: &mut [u64]) -> Outcome
     ensures { λ r. ⌜ Gives (dumpCall (now (input .entry)) (now (tape .entry))) r (now (tape .exit)) ⌝ }
@@ -89,12 +95,11 @@ fn print_all(outcome: Outcome, tape: &[u64]) {
     }
 }
 
-// Reads one octet more than is taken, to tell a longer input.
+// Reads the input, and prints what it is answered with.
 fn main() {
-    let mut input = [0u8; 518];
+    let mut input = [0u8; READ];
     let n = io::read_full(STDIN_FILENO, &mut input);
-    // Room for the 1 + 7 * 512 / 3 records that 512 octets can need.
-    let mut tape = [0u64; 7174];
+    let mut tape = [0u64; WORDS];
     clear(&mut tape);
     let outcome = dump_call(&input[..n], &mut tape);
     print_all(outcome, &tape);

@@ -1,12 +1,11 @@
 -- The dump program's answers, case by case.
-use mathlib.Core.Path.{_≡_, refl}
+use mathlib.Core.Path.{_≡_}
 use mathlib.Core.Bool.{and-false}
 use mathlib.Core.List.{List}
-use Prim.Native.Nat.{ℕ, _-_, _≤_, _<_}
-use native.Mathlib.Omega.{arith}
+use Prim.Native.Nat.{ℕ, _≤_, _<_}
 use borrow.Author.Tests.{le-leb, lt-leb}
 use lib.Dec.{leb}
-use lib.ListN.{length, length-drop}
+use lib.ListN.{length}
 use Rattle.outcome.specs.Call.{refusal}
 use Rattle.meaning.specs.AreaCall.{pushCall}
 use Rattle.meaning.specs.Dump.{inputRegistry, inputBase, inputArea, longestDumped, dumpCall}

@@ -30,7 +30,8 @@ use Rattle.meaning.specs.Frame.{covered}
 use Rattle.meaning.specs.Table.{usual}
 use Rattle.meaning.specs.Value.{Walk}
 use Rattle.meaning.specs.Area.{pushed}
-use Rattle.theorems.specs.Answers.{noRegistry, tooLong, tooFar, noTape, noHeader, tooMany, notThere, markPast, cutsThrough, unreadable, nameLonger, notTaken, areaLines, nameLines, clearLines, cutBackLines, readLines, dumpLines}
+use Rattle.theorems.specs.Answers.{noRegistry, tooLong, tooFar, noTape, noHeader, tooMany, notThere, markPast, cutsThrough, unreadable, nameLonger, notTaken}
+use Rattle.theorems.specs.Answers.{areaLines, nameLines, clearLines, cutBackLines, readLines, dumpLines}
 use Rattle.meaning.specs.AreaCall.{longest, furthest, shown, fitted, callIn, areaCall}
 use Rattle.meaning.specs.Dump.{inputRegistry, inputBase, inputArea, longestDumped, dumpCall}
 
