@@ -8,17 +8,17 @@ const FOLDER_VARIABLE: &str = "WAKKEMOSUT_LIB";
 
 fn main() {
     let folder = folder();
-    let archive = folder.join("libcapi.a");
+    let archive = folder.join("libwakkemosut.a");
     println!("cargo::rerun-if-env-changed={FOLDER_VARIABLE}");
     println!("cargo::rerun-if-changed={}", archive.display());
     assert!(
         archive.is_file(),
-        "{} is not there; build it with `tools/host-staticlib capi`, \
+        "{} is not there; build it with `tools/host-staticlib`, \
          or name its folder in {FOLDER_VARIABLE}",
         archive.display()
     );
     println!("cargo::rustc-link-search=native={}", folder.display());
-    println!("cargo::rustc-link-lib=static=capi");
+    println!("cargo::rustc-link-lib=static=wakkemosut");
 }
 
 /// The folder in which the archive stands.

@@ -1,10 +1,14 @@
-//! The text of document 01's dump program.
+//! The text of document 01's dump program, which takes areas up to 768 octets by document 02's
+//! request 09.
 
 use std::fmt::Write;
 
 use crate::batch::PushCase;
 use crate::records::{Push, Record, push};
 use crate::registry::LAST_REGISTRY;
+
+/// The octets of the longest area that is taken.
+const MOST_IN_AREA: usize = 768;
 
 /// What the dump program prints for an input: registry (1 octet), base (4), area.
 pub fn dumped(input: &[u8]) -> String {
@@ -14,12 +18,12 @@ pub fn dumped(input: &[u8]) -> String {
     }
 }
 
-/// The push that an input asks for, or the answer that refuses it, by document 01's table in its
-/// order; 10 comes first.
+/// The push that an input asks for, or the answer that refuses it, by document 01's table (10 as
+/// document 02 has it) in its order; 10 comes first.
 fn taken(input: &[u8]) -> Result<PushCase<'_>, u8> {
     let (&[registry, ref base @ ..], area) = input.split_first_chunk::<5>().ok_or(10)?;
     let base = u32::from_be_bytes(*base);
-    if area.len() > 512 {
+    if area.len() > MOST_IN_AREA {
         return Err(10);
     }
     if registry > LAST_REGISTRY {

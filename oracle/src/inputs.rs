@@ -24,19 +24,19 @@ const RICHEST: (u8, [u8; 3]) = (1, [0x04, 0x01, 0xA0]);
 const RICH_STRIDE: usize = 16;
 
 /// The greatest lengths of an area that are taken, and one more.
-const GREATEST_LENGTHS: [usize; 3] = [511, 512, 513];
+const GREATEST_LENGTHS: [usize; 3] = [767, 768, 769];
 
 /// Bases at which every area fits.
 const PLAIN_BASES: [u32; 4] = [0, 100, 65_535, 1 << 31];
 
 /// Lengths of areas that stand at the greatest bases.
-const EDGE_LENGTHS: [usize; 3] = [0, 1, 512];
+const EDGE_LENGTHS: [usize; 3] = [0, 1, 768];
 
 /// Lengths of areas in no registry.
-const LENGTHS_OF_NONE: [usize; 5] = [0, 1, 512, 513, 514];
+const LENGTHS_OF_NONE: [usize; 5] = [0, 1, 768, 769, 770];
 
 /// Lengths of areas that are far too long; in two octets, some would be counted as short ones.
-const LONG_LENGTHS: [usize; 6] = [514, 768, 4_096, 65_531, 65_541, 70_000];
+const LONG_LENGTHS: [usize; 6] = [770, 1_024, 4_096, 65_531, 65_541, 70_000];
 
 /// All inputs of the dump program, each once.
 pub fn dump_inputs() -> Vec<Vec<u8>> {
@@ -101,15 +101,12 @@ fn some_damaged_areas() -> Vec<Area> {
     areas.step_by(DAMAGED_STRIDE).collect()
 }
 
-/// Areas of ever more records, up to the most that 512 octets can need.
+/// Areas of ever more records, up to the most that 768 octets can need.
 fn rich_areas() -> Vec<Area> {
     let (registry, entry) = RICHEST;
-    let lengths = (RICH_STRIDE..512).step_by(RICH_STRIDE);
+    let lengths = (RICH_STRIDE..=768).step_by(RICH_STRIDE);
     let areas = lengths.map(|length| repeated(registry, &entry, length));
-    // 170 entries, and one without a value in the two octets that are left
-    let mut richest = repeated(registry, &entry, 510);
-    richest.octets.extend([0x04, 0x00]);
-    areas.chain([richest]).collect()
+    areas.collect()
 }
 
 /// An area of so many octets that are an entry again and again, the last one cut off.

@@ -264,10 +264,10 @@ fn an_input_under_5_octets_gets_answer_10() {
 }
 
 #[test]
-fn an_area_over_512_octets_gets_answer_10() {
-    assert_eq!(first_line("00 00 00 00 00", 512), "0 512 1025 1025");
+fn an_area_over_768_octets_gets_answer_10() {
+    assert_eq!(first_line("00 00 00 00 00", 768), "0 768 1537 1537");
     for head in ["00 00 00 00 00", "06 00 00 00 00", "00 FF FF FF FF"] {
-        assert_eq!(first_line(head, 513), "10 0 0 0");
+        assert_eq!(first_line(head, 769), "10 0 0 0");
         assert_eq!(first_line(head, 70_000), "10 0 0 0");
     }
 }
@@ -275,7 +275,7 @@ fn an_area_over_512_octets_gets_answer_10() {
 #[test]
 fn a_registry_over_5_gets_answer_1_even_where_the_area_does_not_fit() {
     for head in ["06 00 00 00 00", "07 00 00 00 64", "FF FF FF FF FF"] {
-        for zeros in [0, 1, 512] {
+        for zeros in [0, 1, 768] {
             assert_eq!(first_line(head, zeros), "1 0 0 0");
         }
     }

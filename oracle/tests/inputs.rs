@@ -108,7 +108,7 @@ fn areas_stand_inside_areas() {
 
 #[test]
 fn pushes_have_any_number_of_records_up_to_the_most() {
-    let most = 1 + 7 * 512 / 3;
+    let most = 1 + 7 * 768 / 3;
     let counts: HashSet<u64> = INPUTS.iter().map(|input| lines(input)[0][2]).collect();
     assert_eq!(counts.iter().max(), Some(&most));
     for hundred in (0..most).step_by(100) {
@@ -125,7 +125,7 @@ fn every_length_at_a_limit_is_there() {
     for registry in 0..=LAST_REGISTRY {
         let areas = pushes().filter(|&(one, _, _)| one == registry);
         let lengths: HashSet<usize> = areas.map(|(_, _, area)| area.len()).collect();
-        for length in [0, 511, 512, 513] {
+        for length in [0, 767, 768, 769] {
             assert!(lengths.contains(&length), "{length} in registry {registry}");
         }
     }
@@ -149,7 +149,7 @@ fn numbers_that_are_no_registry_are_there_with_areas_of_all_kinds() {
             let mut pushes = pushes();
             pushes.any(|push| (push.0, push.1, push.2.len()) == (number, base, length))
         };
-        for length in [0, 1, 512, 513] {
+        for length in [0, 1, 768, 769] {
             assert!(is_there(100, length) && is_there(u32::MAX, length));
         }
     }

@@ -69,7 +69,7 @@ struct Program {
 /// The program of document 01.
 const RIGHT: Program = Program {
     least_input: 5,
-    most_in_area: 512,
+    most_in_area: 768,
     last_registry: 5,
     greatest_end: 4_294_967_295,
     order: [10, 1, 3],
@@ -117,7 +117,7 @@ fn three_slips_are_found() {
 #[test]
 fn a_column_that_is_wrong_for_its_greatest_number_only_is_found() {
     let place = 4_294_967_295;
-    let greatest = [1_194, 56, 8, 5, place, place, u64::MAX, 1_192, 1_195];
+    let greatest = [1_792, 56, 8, 5, place, place, u64::MAX, 1_787, 1_793];
     for (column, greatest) in greatest.into_iter().enumerate() {
         let change = |listing: &mut Listing| {
             let columns = listing.records.iter_mut().map(|one| &mut one[column]);
@@ -129,7 +129,7 @@ fn a_column_that_is_wrong_for_its_greatest_number_only_is_found() {
 
 #[test]
 fn a_column_of_the_outcome_that_is_wrong_for_its_greatest_number_only_is_found() {
-    for (column, greatest) in [10, 512, 1_195, 1_195].into_iter().enumerate() {
+    for (column, greatest) in [10, 768, 1_793, 1_793].into_iter().enumerate() {
         let change = |listing: &mut Listing| listing.outcome[column] %= greatest;
         assert_found(&format!("outcome {column} % {greatest}"), but(change));
     }
@@ -190,8 +190,8 @@ fn assert_limit_found(what: &str, change: impl Fn(&mut Program)) {
 fn a_limit_that_is_off_by_one_is_found() {
     assert_limit_found("4 octets accepted", |program| program.least_input = 4);
     assert_limit_found("5 octets refused", |program| program.least_input = 6);
-    assert_limit_found("512 octets refused", |program| program.most_in_area = 511);
-    assert_limit_found("513 octets accepted", |program| program.most_in_area = 513);
+    assert_limit_found("768 octets refused", |program| program.most_in_area = 767);
+    assert_limit_found("769 octets accepted", |program| program.most_in_area = 769);
     assert_limit_found("registry 5 refused", |program| program.last_registry = 4);
     assert_limit_found("registry 6 accepted", |program| program.last_registry = 6);
     assert_limit_found("the greatest end refused", |program| {
@@ -218,8 +218,8 @@ fn a_check_that_is_left_out_is_found() {
 
 #[test]
 fn an_input_that_is_read_wrong_is_found() {
-    let cut_off = |input: &[u8]| dumped(&input[..input.len().min(517)]);
-    assert_found("no octet after the area's 512", cut_off);
+    let cut_off = |input: &[u8]| dumped(&input[..input.len().min(773)]);
+    assert_found("no octet after the area's 768", cut_off);
     let counted = |input: &[u8]| dumped(&input[..input.len() % 65_536]);
     assert_found("a length of two octets", counted);
     let turned = |input: &[u8]| {

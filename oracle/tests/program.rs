@@ -137,8 +137,8 @@ fn judge_accepts_a_right_program_which_need_not_read_all() {
     let text = format!("{count} inputs, each printed as the Rust and document 01 say\n");
     let program = env!("CARGO_BIN_EXE_oracle");
     assert_prints(&["judge", program, "dump"], &[], &text);
-    let reads_518_octets = judge_script("head -c 518 | \"$0\" dump");
-    assert_prints(&reads_518_octets, &[], &text);
+    let reads_774_octets = judge_script("head -c 774 | \"$0\" dump");
+    assert_prints(&reads_774_octets, &[], &text);
 }
 
 #[test]

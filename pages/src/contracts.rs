@@ -11,7 +11,7 @@ pub const PAGE: &str = "docs/STATEMENTS.md";
 
 /// What the page lists.
 pub struct EntryPoints<'a> {
-    /// The calls, in Rattle and over C.
+    /// The calls, in Rattle, over C and over C on a slim tape.
     pub calls: BTreeSet<&'a str>,
     /// The modules and crates whose functions may ask something of their callers.
     pub inner: BTreeSet<&'a str>,
@@ -21,7 +21,7 @@ impl<'a> EntryPoints<'a> {
     /// What the page of a tree lists.
     pub fn of(tree: &'a Tree) -> Self {
         let section = section(tree.text(PAGE), "Entry points");
-        let cells = rows(section).flat_map(|cells| cells.into_iter().skip(1).take(2));
+        let cells = rows(section).flat_map(|cells| cells.into_iter().skip(1).take(3));
         let (_, list) = section.split_once("\nInner: ").unwrap_or_default();
         Self {
             calls: cells.flat_map(quotes).collect(),

@@ -35,7 +35,7 @@ fn the_contracts_are_as_the_page_says() {
     let tree = Tree::here();
     assert_eq!(faults(&tree), [""; 0]);
     assert!(public_functions(&tree).len() > 70);
-    assert!(EntryPoints::of(&tree).calls.len() > 15);
+    assert!(EntryPoints::of(&tree).calls.len() > 20);
 }
 
 #[test]

@@ -9,19 +9,20 @@ use lib.Seq.{sets}
 use Rattle.outcome.specs.Call.{After, done, refused, refusal, finished, numbersOf}
 use Rattle.calls.specs.Limits.{lastLabel, lastShape, lastRegistry}
 use Rattle.tape.specs.Record.{labelOf, shapeOf, zeros, words}
+use Rattle.tape.specs.Layout.{width}
 use Rattle.tape.specs.Tape.{used, headed, withUsed, recordAt, load}
 use Rattle.tape.specs.declared.Record.{Record}
 use Rattle.calls.specs.declared.Reading.{Reading}
 
 -- clear
 
--- the header 0, 4, 6, 0, and nothing else changed
-abbrev pub cleared : List ℕ → List ℕ
-cleared t = sets t 0 (0 ∷ 4 ∷ 6 ∷ 0 ∷ [])
+-- the header 0, 4, the words in a record, 0, and nothing else changed
+abbrev pub cleared : Bool → List ℕ → List ℕ
+cleared slim t = sets t 0 (0 ∷ 4 ∷ width slim ∷ 0 ∷ [])
 
 -- 4 only under 4 words
-unfoldable pub clearCall : List ℕ → After
-clearCall t = cond (leb 4 (length t)) (finished (cleared t)) (refusal 4 t)
+unfoldable pub clearCall : Bool → List ℕ → After
+clearCall slim t = cond (leb 4 (length t)) (finished (cleared slim t)) (refusal 4 t)
 
 -- cut back
 
@@ -31,11 +32,11 @@ endBy mark [] = true
 endBy mark (r ∷ rs) = leb (r .past .0) mark && endBy mark rs
 
 -- 4, then 6: mark past the count, then 7: a record kept by the cut has word 5 above the mark
-unfoldable pub cutBackCall : List ℕ → ℕ → After
-cutBackCall t mark =
-    cond (headed t)
+unfoldable pub cutBackCall : Bool → List ℕ → ℕ → After
+cutBackCall slim t mark =
+    cond (headed slim t)
     (cond (leb mark (used t))
-    (cond (endBy mark (load t 0 mark)) (finished (withUsed mark t))
+    (cond (endBy mark (load slim t 0 mark)) (finished (withUsed mark t))
     (refusal 7 t))
     (refusal 6 t))
     (refusal 4 t)
@@ -51,11 +52,11 @@ abbrev pub noRecord : ℕ → Reading
 noRecord answer = record { outcome = refused answer; «record» = zeros }
 
 -- 4, then 6: at or past the count, then 8
-unfoldable pub readCall : List ℕ → ℕ → Reading
-readCall t at =
-    cond (headed t)
+unfoldable pub readCall : Bool → List ℕ → ℕ → Reading
+readCall slim t at =
+    cond (headed slim t)
     (cond (ltb at (used t))
-    (cond (readable (recordAt t at)) (record { outcome = done; «record» = recordAt t at })
+    (cond (readable (recordAt slim t at)) (record { outcome = done; «record» = recordAt slim t at })
     (noRecord 8))
     (noRecord 6))
     (noRecord 4)

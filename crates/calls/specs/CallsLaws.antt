@@ -14,6 +14,7 @@ use Rattle.outcome.specs.Call.{done, refusal, finished, numbersOf}
 use Rattle.outcome.specs.AnswersLaws.{Fails, fails-leb, fails-and, fails-as}
 use Rattle.tape.specs.Both.{and-assoc, and-yes, and-no}
 use Rattle.tape.specs.Record.{words}
+use Rattle.tape.specs.Layout.{width}
 use Rattle.tape.specs.Tape.{InOrder, used, headed, withUsed, recordAt, load}
 use Rattle.tape.specs.LoadLaws.{load-append}
 use Rattle.calls.specs.Calls.{cleared, clearCall, endBy, cutBackCall, readable, noRecord, readCall, GivesRecord}
@@ -22,34 +23,35 @@ use Rattle.calls.specs.declared.Reading.{Reading}
 
 -- clear
 
-module _ (t : List ℕ) where
+module _ (slim : Bool) (t : List ℕ) where
   -- 4: under 4 words
-  pub clear-4 : length t < 4 → clearCall t ≡ refusal 4 t
+  pub clear-4 : length t < 4 → clearCall slim t ≡ refusal 4 t
   unfolding clearCall
   clear-4 short = rw (lt-leb 4 (length t) short)
 
   -- 0: done
-  pub clear-0 : 4 ≤ length t → clearCall t ≡ finished (cleared t)
+  pub clear-0 : 4 ≤ length t → clearCall slim t ≡ finished (cleared slim t)
   unfolding clearCall
   clear-0 long = rw (le-leb 4 (length t) long)
 
 -- cleared
 
--- a cleared tape
-pub cleared-in-order : (t : List ℕ) → 4 ≤ length t → InOrder (cleared t)
-cleared-in-order [] long = absurd (omega arith)
-cleared-in-order (a ∷ []) long = absurd (omega arith)
-cleared-in-order (a ∷ b ∷ []) long = absurd (omega arith)
-cleared-in-order (a ∷ b ∷ c ∷ []) long = absurd (omega arith)
-cleared-in-order (a ∷ b ∷ c ∷ d ∷ rest) long = record { long = omega arith; offset = refl; width = refl; last = refl; fits = omega arith }
+-- its header is in order
+pub cleared-in-order : (slim : Bool) (t : List ℕ) → 4 ≤ length t → InOrder slim (cleared slim t)
+cleared-in-order slim [] long = absurd (omega arith)
+cleared-in-order slim (a ∷ []) long = absurd (omega arith)
+cleared-in-order slim (a ∷ b ∷ []) long = absurd (omega arith)
+cleared-in-order slim (a ∷ b ∷ c ∷ []) long = absurd (omega arith)
+cleared-in-order slim (a ∷ b ∷ c ∷ d ∷ rest) long =
+    record { long = omega arith; offset = refl; «width» = refl; last = refl; fits = omega arith }
 
 -- and it has no records
-pub used-cleared : (t : List ℕ) → used (cleared t) ≡ 0
-used-cleared [] = refl
-used-cleared (a ∷ []) = refl
-used-cleared (a ∷ b ∷ []) = refl
-used-cleared (a ∷ b ∷ c ∷ []) = refl
-used-cleared (a ∷ b ∷ c ∷ d ∷ rest) = refl
+pub used-cleared : (slim : Bool) (t : List ℕ) → used (cleared slim t) ≡ 0
+used-cleared slim [] = refl
+used-cleared slim (a ∷ []) = refl
+used-cleared slim (a ∷ b ∷ []) = refl
+used-cleared slim (a ∷ b ∷ c ∷ []) = refl
+used-cleared slim (a ∷ b ∷ c ∷ d ∷ rest) = refl
 
 -- cut back
 
@@ -59,97 +61,98 @@ unfolding endBy
 end-by-++ mark [] ys = refl
 end-by-++ mark (x ∷ xs) ys = ap (λ (b : Bool). leb (x .past .0) mark && b) (end-by-++ mark xs ys) ∙ sym (and-assoc (leb (x .past .0) mark) (endBy mark xs) (endBy mark ys))
 
--- the turns of its loop, from the last record kept to the first
-module _ (t : List ℕ) (mark left : ℕ) (more : 0 < left) where
-  -- the last record that is left, and those before it
-  end-last : endBy mark (load t 0 left) ≡ (endBy mark (load t 0 (left - 1)) && (leb (recordAt t (left - 1) .past .0) mark && true))
+module _ (slim : Bool) where
+  -- the turns of its loop, from the last record kept to the first
+  module _ (t : List ℕ) (mark left : ℕ) (more : 0 < left) where
+    -- the last record that is left, and those before it
+    end-last : endBy mark (load slim t 0 left) ≡ (endBy mark (load slim t 0 (left - 1)) && (leb (recordAt slim t (left - 1) .past .0) mark && true))
+    unfolding endBy load
+    end-last =
+        let k : ℕ = left - 1 in
+        let count : left ≡ k + 1 = omega arith in
+        ap (λ (n : ℕ). endBy mark (load slim t 0 n)) count ∙ ap (endBy mark) (load-append slim k 1 t 0) ∙ end-by-++ mark (load slim t 0 k) (load slim t (0 + k) 1) ∙ rw zero-add refl
+
+    -- its descendants end by the mark
+    pub end-next : recordAt slim t (left - 1) .past .0 ≤ mark → endBy mark (load slim t 0 (left - 1)) ≡ endBy mark (load slim t 0 left)
+    end-next ends = sym (end-last ∙ rw (le-leb _ _ ends) (and-yes (endBy mark (load slim t 0 (left - 1)))))
+
+    -- its descendants end after the mark
+    pub end-over : mark < recordAt slim t (left - 1) .past .0 → false ≡ endBy mark (load slim t 0 left)
+    end-over over = sym (end-last ∙ rw (lt-leb _ _ over) (and-no (endBy mark (load slim t 0 (left - 1)))))
+
+  -- no record is left
+  pub end-none : (t : List ℕ) (mark left : ℕ) → left ≤ 0 → true ≡ endBy mark (load slim t 0 left)
   unfolding endBy load
-  end-last =
-      let k : ℕ = left - 1 in
-      let count : left ≡ k + 1 = omega arith in
-      ap (λ (n : ℕ). endBy mark (load t 0 n)) count ∙ ap (endBy mark) (load-append k 1 t 0) ∙ end-by-++ mark (load t 0 k) (load t (0 + k) 1) ∙ rw zero-add refl
+  end-none t mark left none =
+      let count : left ≡ 0 = omega arith in
+      rw count refl
 
-  -- its descendants end by the mark
-  pub end-next : recordAt t (left - 1) .past .0 ≤ mark → endBy mark (load t 0 (left - 1)) ≡ endBy mark (load t 0 left)
-  end-next ends = sym (end-last ∙ rw (le-leb _ _ ends) (and-yes (endBy mark (load t 0 (left - 1)))))
+  -- of n records from a position on, one has word 5 above the mark
+  abbrev Above : ℕ → List ℕ → ℕ → ℕ → Type 0
+  Above n t mark at = (i : ℕ) × (at ≤ i) × (i < at + n) × (mark < recordAt slim t i .past .0)
 
-  -- its descendants end after the mark
-  pub end-over : mark < recordAt t (left - 1) .past .0 → false ≡ endBy mark (load t 0 left)
-  end-over over = sym (end-last ∙ rw (lt-leb _ _ over) (and-no (endBy mark (load t 0 (left - 1)))))
+  fails-end-by : (n : ℕ) (t : List ℕ) (mark at : ℕ) → Fails (endBy mark (load slim t at n)) (Above n t mark at)
+  unfolding endBy load
+  fails-end-by zero t mark at = (λ no′. absurd (true≢false no′), λ yes′ x. omega (arith, x .1, x .2))
+  fails-end-by (suc n) t mark at =
+      fails-as to (λ x. back x (decLe (x .0) at))
+      (fails-and (leb (recordAt slim t at .past .0) mark) (endBy mark (load slim t (suc at) n)) (fails-leb (recordAt slim t at .past .0) mark) (fails-end-by n t mark (suc at)))
+    where
+      to : (mark < recordAt slim t at .past .0) ⊎ Above n t mark (suc at) → Above (suc n) t mark at
+      to (inl here) = (at, omega arith, omega arith, here)
+      to (inr x) = (x .0, omega (arith, x .1), omega (arith, x .2), x .3)
 
--- no record is left
-pub end-none : (t : List ℕ) (mark left : ℕ) → left ≤ 0 → true ≡ endBy mark (load t 0 left)
-unfolding endBy load
-end-none t mark left none =
-    let count : left ≡ 0 = omega arith in
-    rw count refl
+      back : (x : Above (suc n) t mark at) → Dec (x .0 ≤ at) → (mark < recordAt slim t at .past .0) ⊎ Above n t mark (suc at)
+      back x (yes first) =
+          let same : x .0 ≡ at = omega (arith, x .1) in
+          inl (subst (λ (i : ℕ). mark < recordAt slim t i .past .0) same (x .3))
+      back x (no later) = inr (x .0, omega arith, omega (arith, x .2), x .3)
 
--- of n records from a position on, one has word 5 above the mark
-abbrev Above : ℕ → List ℕ → ℕ → ℕ → Type 0
-Above n t mark at = (i : ℕ) × (at ≤ i) × (i < at + n) × (mark < recordAt t i .past .0)
+  -- it is judged on every record kept: it fails where one of them has word 5 above the mark, and only there
+  pub fails-cut : (t : List ℕ) (mark : ℕ) → Fails (endBy mark (load slim t 0 mark)) ((i : ℕ) × (i < mark) × (mark < recordAt slim t i .past .0))
+  fails-cut t mark = fails-as (λ x. (x .0, omega (arith, x .2), x .3)) (λ x. (x .0, omega arith, omega (arith, x .1), x .2)) (fails-end-by mark t mark 0)
 
-fails-end-by : (n : ℕ) (t : List ℕ) (mark at : ℕ) → Fails (endBy mark (load t at n)) (Above n t mark at)
-unfolding endBy load
-fails-end-by zero t mark at = (λ no′. absurd (true≢false no′), λ yes′ x. omega (arith, x .1, x .2))
-fails-end-by (suc n) t mark at =
-    fails-as to (λ x. back x (decLe (x .0) at))
-    (fails-and (leb (recordAt t at .past .0) mark) (endBy mark (load t (suc at) n)) (fails-leb (recordAt t at .past .0) mark) (fails-end-by n t mark (suc at)))
-  where
-    to : (mark < recordAt t at .past .0) ⊎ Above n t mark (suc at) → Above (suc n) t mark at
-    to (inl here) = (at, omega arith, omega arith, here)
-    to (inr x) = (x .0, omega (arith, x .1), omega (arith, x .2), x .3)
-
-    back : (x : Above (suc n) t mark at) → Dec (x .0 ≤ at) → (mark < recordAt t at .past .0) ⊎ Above n t mark (suc at)
-    back x (yes first) =
-        let same : x .0 ≡ at = omega (arith, x .1) in
-        inl (subst (λ (i : ℕ). mark < recordAt t i .past .0) same (x .3))
-    back x (no later) = inr (x .0, omega arith, omega (arith, x .2), x .3)
-
--- it is judged on every record kept: it fails where one of them has word 5 above the mark, and only there
-pub fails-cut : (t : List ℕ) (mark : ℕ) → Fails (endBy mark (load t 0 mark)) ((i : ℕ) × (i < mark) × (mark < recordAt t i .past .0))
-fails-cut t mark = fails-as (λ x. (x .0, omega (arith, x .2), x .3)) (λ x. (x .0, omega arith, omega (arith, x .1), x .2)) (fails-end-by mark t mark 0)
-
-module _ (t : List ℕ) (mark : ℕ) where
+module _ (slim : Bool) (t : List ℕ) (mark : ℕ) where
   -- 4: the header is not in order
-  pub cut-4 : headed t ≡ false → cutBackCall t mark ≡ refusal 4 t
+  pub cut-4 : headed slim t ≡ false → cutBackCall slim t mark ≡ refusal 4 t
   unfolding cutBackCall
   cut-4 bad = rw bad
 
   -- 6: mark past the count
-  pub cut-6 : headed t ≡ true → used t < mark → cutBackCall t mark ≡ refusal 6 t
+  pub cut-6 : headed slim t ≡ true → used t < mark → cutBackCall slim t mark ≡ refusal 6 t
   unfolding cutBackCall
   cut-6 good past = rw (good, lt-leb mark (used t) past)
 
   -- 7: a record kept by the cut has word 5 above the mark
-  pub cut-7 : headed t ≡ true → mark ≤ used t → endBy mark (load t 0 mark) ≡ false → cutBackCall t mark ≡ refusal 7 t
+  pub cut-7 : headed slim t ≡ true → mark ≤ used t → endBy mark (load slim t 0 mark) ≡ false → cutBackCall slim t mark ≡ refusal 7 t
   unfolding cutBackCall
   cut-7 good inside cuts = rw (good, le-leb mark (used t) inside, cuts)
 
   -- 0: done
-  pub cut-0 : headed t ≡ true → mark ≤ used t → endBy mark (load t 0 mark) ≡ true → cutBackCall t mark ≡ finished (withUsed mark t)
+  pub cut-0 : headed slim t ≡ true → mark ≤ used t → endBy mark (load slim t 0 mark) ≡ true → cutBackCall slim t mark ≡ finished (withUsed mark t)
   unfolding cutBackCall
   cut-0 good inside kept = rw (good, le-leb mark (used t) inside, kept)
 
 -- read
 
-module _ (t : List ℕ) (at : ℕ) where
+module _ (slim : Bool) (t : List ℕ) (at : ℕ) where
   -- 4: the header is not in order
-  pub read-4 : headed t ≡ false → readCall t at ≡ noRecord 4
+  pub read-4 : headed slim t ≡ false → readCall slim t at ≡ noRecord 4
   unfolding readCall
   read-4 bad = rw bad
 
   -- 6: at or past the count
-  pub read-6 : headed t ≡ true → used t ≤ at → readCall t at ≡ noRecord 6
+  pub read-6 : headed slim t ≡ true → used t ≤ at → readCall slim t at ≡ noRecord 6
   unfolding readCall
   read-6 good past = rw (good, le-ltb at (used t) past)
 
   -- 8: label, shape or registry over the last, or start after end
-  pub read-8 : headed t ≡ true → at < used t → readable (recordAt t at) ≡ false → readCall t at ≡ noRecord 8
+  pub read-8 : headed slim t ≡ true → at < used t → readable (recordAt slim t at) ≡ false → readCall slim t at ≡ noRecord 8
   unfolding readCall
   read-8 good inside bad = rw (good, lt-ltb at (used t) inside, bad)
 
   -- 0: done
-  pub read-0 : headed t ≡ true → at < used t → readable (recordAt t at) ≡ true → readCall t at ≡ record { outcome = done; «record» = recordAt t at }
+  pub read-0 : headed slim t ≡ true → at < used t → readable (recordAt slim t at) ≡ true → readCall slim t at ≡ record { outcome = done; «record» = recordAt slim t at }
   unfolding readCall
   read-0 good inside fine = rw (good, lt-ltb at (used t) inside, fine)
 

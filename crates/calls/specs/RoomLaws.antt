@@ -15,40 +15,41 @@ use Rattle.tape.specs.LoadLaws.{used-with-used}
 use Rattle.calls.specs.Calls.{cleared, clearCall, endBy, cutBackCall}
 use Rattle.calls.specs.CallsLaws.{clear-4, clear-0, cleared-in-order, used-cleared, cut-4, cut-6, cut-7, cut-0}
 
--- the tape t became x: its header is in order, it has as much room, and n records are used
-pub record Freed (t x : List ℕ) (n : ℕ) : Type 0 where
-  pub in-order : headed x ≡ true
-  pub same-room : room x ≡ room t
-  pub count : used x ≡ n
+module _ (slim : Bool) where
+  -- the tape t became x: its header is in order, it has as much room, and n records are used
+  pub record Freed (t x : List ℕ) (n : ℕ) : Type 0 where
+    pub in-order : headed slim x ≡ true
+    pub same-room : room slim x ≡ room slim t
+    pub count : used x ≡ n
 
--- an answer, as the definition has it
-answer-of : {meant after : After} {o : Outcome} {x : List ℕ} → Gives meant o x → o .answer ≡ 0 → meant ≡ after → after .outcome .answer ≡ 0
-answer-of ran zero is = sym (ap (λ (a : After). a .outcome .answer) is) ∙ sym (ap (λ (o : Outcome). o .answer) (ran .gave)) ∙ zero
+  -- an answer, as the definition has it
+  answer-of : {meant after : After} {o : Outcome} {x : List ℕ} → Gives meant o x → o .answer ≡ 0 → meant ≡ after → after .outcome .answer ≡ 0
+  answer-of ran zero is = sym (ap (λ (a : After). a .outcome .answer) is) ∙ sym (ap (λ (o : Outcome). o .answer) (ran .gave)) ∙ zero
 
--- after a clear: no record is used
-pub clear-frees : (t : List ℕ) (o : Outcome) (x : List ℕ) → Gives (clearCall t) o x → o .answer ≡ 0 → Freed t x 0
-clear-frees t o x ran zero = go (decLe 4 (length t))
-  where
-    go : Dec (4 ≤ length t) → Freed t x 0
-    go (no short) = absurd (omega (arith, answer-of ran zero (clear-4 t (omega arith))))
-    go (yes long) =
-        let left : x ≡ cleared t = ran .left ∙ ap (λ (a : After). a .lent) (clear-0 t long) in
-        rw left (record { in-order = in-order-headed (cleared t) (cleared-in-order t long); same-room = rw length-sets refl; count = used-cleared t })
+  -- after a clear: no record is used
+  pub clear-frees : (t : List ℕ) (o : Outcome) (x : List ℕ) → Gives (clearCall slim t) o x → o .answer ≡ 0 → Freed t x 0
+  clear-frees t o x ran zero = go (decLe 4 (length t))
+    where
+      go : Dec (4 ≤ length t) → Freed t x 0
+      go (no short) = absurd (omega (arith, answer-of ran zero (clear-4 slim t (omega arith))))
+      go (yes long) =
+          let left : x ≡ cleared slim t = ran .left ∙ ap (λ (a : After). a .lent) (clear-0 slim t long) in
+          rw left (record { in-order = in-order-headed (cleared slim t) (cleared-in-order slim t long); same-room = rw length-sets refl; count = used-cleared slim t })
 
--- after a cut back: those before the mark
-pub cut-frees : (t : List ℕ) (mark : ℕ) (o : Outcome) (x : List ℕ) → Gives (cutBackCall t mark) o x → o .answer ≡ 0 → Freed t x mark
-cut-frees t mark o x ran zero = go (headed t) refl (decLe mark (used t)) (endBy mark (load t 0 mark)) refl
-  where
-    go : (a : Bool) → headed t ≡ a → Dec (mark ≤ used t) → (b : Bool) → endBy mark (load t 0 mark) ≡ b → Freed t x mark
-    go false bad inside b ends = absurd (omega (arith, answer-of ran zero (cut-4 t mark bad)))
-    go true good (no past) b ends = absurd (omega (arith, answer-of ran zero (cut-6 t mark good (omega arith))))
-    go true good (yes inside) false ends = absurd (omega (arith, answer-of ran zero (cut-7 t mark good inside ends)))
-    go true good (yes inside) true ends =
-        let header : InOrder t = headed-in-order t good in
-        let left : x ≡ withUsed mark t = ran .left ∙ ap (λ (a : After). a .lent) (cut-0 t mark good inside ends) in
-        rw left
-        (record {
-          in-order = in-order-headed (withUsed mark t) (with-used-in-order t mark header (omega (arith, header .long, header .fits)));
-          same-room = rw length-set refl;
-          count = used-with-used t mark (header .long);
-        })
+  -- after a cut back: those before the mark
+  pub cut-frees : (t : List ℕ) (mark : ℕ) (o : Outcome) (x : List ℕ) → Gives (cutBackCall slim t mark) o x → o .answer ≡ 0 → Freed t x mark
+  cut-frees t mark o x ran zero = go (headed slim t) refl (decLe mark (used t)) (endBy mark (load slim t 0 mark)) refl
+    where
+      go : (a : Bool) → headed slim t ≡ a → Dec (mark ≤ used t) → (b : Bool) → endBy mark (load slim t 0 mark) ≡ b → Freed t x mark
+      go false bad inside b ends = absurd (omega (arith, answer-of ran zero (cut-4 slim t mark bad)))
+      go true good (no past) b ends = absurd (omega (arith, answer-of ran zero (cut-6 slim t mark good (omega arith))))
+      go true good (yes inside) false ends = absurd (omega (arith, answer-of ran zero (cut-7 slim t mark good inside ends)))
+      go true good (yes inside) true ends =
+          let header : InOrder slim t = headed-in-order t good in
+          let left : x ≡ withUsed mark t = ran .left ∙ ap (λ (a : After). a .lent) (cut-0 slim t mark good inside ends) in
+          rw left
+          (record {
+            in-order = in-order-headed (withUsed mark t) (with-used-in-order t mark header (omega (arith, header .long, header .fits)));
+            same-room = rw length-set refl;
+            count = used-with-used t mark (header .long);
+          })

@@ -6,14 +6,14 @@ use outcome::Outcome;
 use store::header::in_order;
 use store::header::set_used;
 use store::header::used;
+use store::header::width;
 use store::words::get;
 use tape::Position;
 use tape::Record;
 ghost use mathlib.Core.Path.{_≡_};
 ghost use Prim.Native.Nat.{_+_, _*_, _≤_};
-ghost use lib.ListN.{length};
 ghost use Rattle.outcome.specs.Call.{Gives};
-ghost use Rattle.tape.specs.Tape.{load};
+ghost use Rattle.tape.specs.Tape.{load, room};
 ghost use Rattle.calls.specs.Calls.{clearCall, endBy, cutBackCall, readable, noRecord, readCall};
 
 pub mod limits;
@@ -26,28 +26,29 @@ pub struct Reading {
 }
 
 // The call `clear`: writes the header of a tape without records.
-pub fn clear(tape: &mut [u64]) -> Outcome
-    ensures { λ r. ⌜ Gives (clearCall (now (tape .entry))) r (now (tape .exit)) ⌝ }
+pub fn clear(tape: &mut [u64], slim: bool) -> Outcome
+    ensures { λ r. ⌜ Gives (clearCall slim (now (tape .entry))) r (now (tape .exit)) ⌝ }
 {
     if tape.len() < 4 {
         return Outcome::refused(Outcome::NO_TAPE);
     }
+    let words = width(slim) as u64;
     tape[0] = 0;
     tape[1] = 4;
-    tape[2] = 6;
+    tape[2] = words;
     tape[3] = 0;
     Outcome::done()
 }
 
 // Whether no record before `mark` has descendants at or past it.
-fn end_by(tape: &[u64], mark: Position) -> bool
-    requires { ⌜ 4 + 6 * mark .0 ≤ length (now tape) ⌝ }
-    ensures { λ r. ⌜ r ≡ endBy (mark .0) (load (now (tape .entry)) 0 (mark .0)) ⌝ }
+fn end_by(tape: &[u64], slim: bool, mark: Position) -> bool
+    requires { ⌜ mark .0 ≤ room slim (now tape) ⌝ }
+    ensures { λ r. ⌜ r ≡ endBy (mark .0) (load slim (now (tape .entry)) 0 (mark .0)) ⌝ }
 {
     let end = mark.0;
     let mut left = end;
     while 0 < left {
-        let r = get(tape, Position(left - 1));
+        let r = get(tape, slim, Position(left - 1));
         if end < r.past.0 {
             return false;
         }
@@ -57,17 +58,17 @@ fn end_by(tape: &[u64], mark: Position) -> bool
 }
 
 // The call `cut back`: lowers the count of used records to `mark`.
-pub fn cut_back(tape: &mut [u64], mark: Position) -> Outcome
-    ensures { λ r. ⌜ Gives (cutBackCall (now (tape .entry)) (mark .0)) r (now (tape .exit)) ⌝ }
+pub fn cut_back(tape: &mut [u64], slim: bool, mark: Position) -> Outcome
+    ensures { λ r. ⌜ Gives (cutBackCall slim (now (tape .entry)) (mark .0)) r (now (tape .exit)) ⌝ }
 {
-    if !in_order(tape) {
+    if !in_order(tape, slim) {
         return Outcome::refused(Outcome::NO_TAPE);
     }
     let count = used(tape);
     if count.0 < mark.0 {
         return Outcome::refused(Outcome::PAST_COUNT);
     }
-    if !end_by(tape, mark) {
+    if !end_by(tape, slim, mark) {
         return Outcome::refused(Outcome::CUTS_CONTAINER);
     }
     set_used(tape, mark);
@@ -101,17 +102,17 @@ fn no_record(answer: u8) -> Reading
 }
 
 // The call `read`: gives the record at position `at`.
-pub fn read(tape: &[u64], at: Position) -> Reading
-    ensures { λ r. ⌜ r ≡ readCall (now (tape .entry)) (at .0) ⌝ }
+pub fn read(tape: &[u64], slim: bool, at: Position) -> Reading
+    ensures { λ r. ⌜ r ≡ readCall slim (now (tape .entry)) (at .0) ⌝ }
 {
-    if !in_order(tape) {
+    if !in_order(tape, slim) {
         return no_record(Outcome::NO_TAPE);
     }
     let count = used(tape);
     if count.0 <= at.0 {
         return no_record(Outcome::PAST_COUNT);
     }
-    let record = get(tape, at);
+    let record = get(tape, slim, at);
     if !is_readable(record) {
         return no_record(Outcome::UNREADABLE);
     }

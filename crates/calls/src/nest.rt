@@ -7,9 +7,9 @@ use tape::Position;
 use tape::Record;
 use tape::shape::Shape;
 ghost use mathlib.Core.Path.{_≡_};
-ghost use Prim.Native.Nat.{_+_, _*_, _≤_, _<_, _^_};
-ghost use lib.ListN.{length};
+ghost use Prim.Native.Nat.{_+_, _≤_, _<_, _^_};
 ghost use Rattle.tape.specs.Record.{shapeOf, holds};
+ghost use Rattle.tape.specs.Tape.{room};
 ghost use Rattle.calls.specs.Nest.{isLeaf, isContainer, trees, nestTest};
 
 // Whether a record has a container's shape.
@@ -42,13 +42,13 @@ fn is_container(r: Record, at: Position, end: Position) -> bool
 }
 
 // Whether the records from `from` up to `end` split into trees, at most `depth` containers deep.
-fn split(tape: &[u64], depth: usize, from: Position, end: Position) -> bool
-    requires { ⌜ 4 + 6 * end .0 ≤ length (now tape) ⌝ }
-    ensures { λ b. ⌜ b ≡ trees (now (tape .entry)) depth (from .0) (end .0) ⌝ }
+fn split(tape: &[u64], slim: bool, depth: usize, from: Position, end: Position) -> bool
+    requires { ⌜ end .0 ≤ room slim (now tape) ⌝ }
+    ensures { λ b. ⌜ b ≡ trees slim (now (tape .entry)) depth (from .0) (end .0) ⌝ }
 {
     let mut at = from.0;
     while at < end.0 {
-        let r = get(tape, Position(at));
+        let r = get(tape, slim, Position(at));
         if holds_others(r) {
             if depth == 0 {
                 return false;
@@ -57,7 +57,7 @@ fn split(tape: &[u64], depth: usize, from: Position, end: Position) -> bool
                 return false;
             }
             let past = r.past.0;
-            if !split(tape, depth - 1, Position(at + 1), Position(past)) {
+            if !split(tape, slim, depth - 1, Position(at + 1), Position(past)) {
                 return false;
             }
             at = past;
@@ -72,12 +72,12 @@ fn split(tape: &[u64], depth: usize, from: Position, end: Position) -> bool
 }
 
 // The call `nest test`: whether the used records split into trees.
-pub fn nest_test(tape: &[u64]) -> bool
-    ensures { λ b. ⌜ b ≡ nestTest (now (tape .entry)) ⌝ }
+pub fn nest_test(tape: &[u64], slim: bool) -> bool
+    ensures { λ b. ⌜ b ≡ nestTest slim (now (tape .entry)) ⌝ }
 {
-    if !in_order(tape) {
+    if !in_order(tape, slim) {
         return false;
     }
     let count = used(tape);
-    split(tape, DEEPEST, Position(0), count)
+    split(tape, slim, DEEPEST, Position(0), count)
 }

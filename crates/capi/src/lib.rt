@@ -11,6 +11,7 @@ use subtlv::area_call;
 use tape::Octet;
 use tape::Position;
 ghost use mathlib.Core.Path.{_≡_};
+ghost use mathlib.Core.Bool.{false};
 ghost use Rattle.octets.specs.Mask.{Masks};
 ghost use Rattle.outcome.specs.Call.{GivesNumbers};
 ghost use Rattle.registry.specs.NameCall.{nameCall};
@@ -18,6 +19,9 @@ ghost use Rattle.calls.specs.Calls.{clearCall, cutBackCall, readCall, GivesReco
 ghost use Rattle.calls.specs.Nest.{nestTest, yesNo};
 ghost use Rattle.meaning.specs.AreaCall.{areaCall, walkCall, pushCall};
 ghost use Rattle.subtlv.specs.Call.{shownBy};
+
+// Records of six words: the one layout of this library, so that the back end takes the choice out of all that writes.
+const USUAL: bool = false;
 
 // Clears the bits of `prefix` after the first `bits` bits.
 #[no_mangle]
@@ -45,9 +49,9 @@ fn numbered(
     numbers: &mut [u64; 4],
     call: Call,
 )
-    ensures { λ _. ⌜ GivesNumbers (areaCall (shownBy call) registry (now (area .entry)) base (now (tape .entry))) (now (numbers .exit)) (now (tape .exit)) ⌝ }
+    ensures { λ _. ⌜ GivesNumbers (areaCall false (shownBy call) registry (now (area .entry)) base (now (tape .entry))) (now (numbers .exit)) (now (tape .exit)) ⌝ }
 {
-    let outcome = area_call(call, &area[..], Octet(base as usize), registry, tape);
+    let outcome = area_call(call, &area[..], Octet(base as usize), registry, tape, USUAL);
     *numbers = outcome.numbers();
 }
 
@@ -60,7 +64,7 @@ pub extern "C" fn wakkemosut_walk(
     tape: &mut [u64],
     numbers: &mut [u64; 4],
 )
-    ensures { λ _. ⌜ GivesNumbers (walkCall registry (now (area .entry)) base (now (tape .entry))) (now (numbers .exit)) (now (tape .exit)) ⌝ }
+    ensures { λ _. ⌜ GivesNumbers (walkCall false registry (now (area .entry)) base (now (tape .entry))) (now (numbers .exit)) (now (tape .exit)) ⌝ }
 {
     numbered(area, base, registry, tape, numbers, Call::Walk)
 }
@@ -74,7 +78,7 @@ pub extern "C" fn wakkemosut_push(
     tape: &mut [u64],
     numbers: &mut [u64; 4],
 )
-    ensures { λ _. ⌜ GivesNumbers (pushCall registry (now (area .entry)) base (now (tape .entry))) (now (numbers .exit)) (now (tape .exit)) ⌝ }
+    ensures { λ _. ⌜ GivesNumbers (pushCall false registry (now (area .entry)) base (now (tape .entry))) (now (numbers .exit)) (now (tape .exit)) ⌝ }
 {
     numbered(area, base, registry, tape, numbers, Call::Push)
 }
@@ -82,18 +86,18 @@ pub extern "C" fn wakkemosut_push(
 // Writes the header of a tape without records, and the outcome to `numbers`.
 #[no_mangle]
 pub extern "C" fn wakkemosut_clear(tape: &mut [u64], numbers: &mut [u64; 4])
-    ensures { λ _. ⌜ GivesNumbers (clearCall (now (tape .entry))) (now (numbers .exit)) (now (tape .exit)) ⌝ }
+    ensures { λ _. ⌜ GivesNumbers (clearCall false (now (tape .entry))) (now (numbers .exit)) (now (tape .exit)) ⌝ }
 {
-    let outcome = clear(tape);
+    let outcome = clear(tape, USUAL);
     *numbers = outcome.numbers();
 }
 
 // Lowers the count of used records to `mark`, and writes the outcome to `numbers`.
 #[no_mangle]
 pub extern "C" fn wakkemosut_cut_back(tape: &mut [u64], mark: u64, numbers: &mut [u64; 4])
-    ensures { λ _. ⌜ GivesNumbers (cutBackCall (now (tape .entry)) mark) (now (numbers .exit)) (now (tape .exit)) ⌝ }
+    ensures { λ _. ⌜ GivesNumbers (cutBackCall false (now (tape .entry)) mark) (now (numbers .exit)) (now (tape .exit)) ⌝ }
 {
-    let outcome = cut_back(tape, Position(mark as usize));
+    let outcome = cut_back(tape, USUAL, Position(mark as usize));
     *numbers = outcome.numbers();
 }
 
@@ -105,9 +109,9 @@ pub extern "C" fn wakkemosut_read(
     words: &mut [u64; 6],
     numbers: &mut [u64; 4],
 )
-    ensures { λ _. ⌜ GivesRecord (readCall (now (tape .entry)) at) (now (numbers .exit)) (now (words .exit)) ⌝ }
+    ensures { λ _. ⌜ GivesRecord (readCall false (now (tape .entry)) at) (now (numbers .exit)) (now (words .exit)) ⌝ }
 {
-    let reading = read(tape, Position(at as usize));
+    let reading = read(tape, USUAL, Position(at as usize));
     let outcome = reading.outcome;
     let record = reading.record;
     *words = record.words();
@@ -117,9 +121,9 @@ pub extern "C" fn wakkemosut_read(
 // Whether the used records split into trees: 1 yes, 0 no.
 #[no_mangle]
 pub extern "C" fn wakkemosut_nest_test(tape: &[u64]) -> u8
-    ensures { λ r. ⌜ r ≡ yesNo (nestTest (now (tape .entry))) ⌝ }
+    ensures { λ r. ⌜ r ≡ yesNo (nestTest false (now (tape .entry))) ⌝ }
 {
-    if nest_test(tape) {
+    if nest_test(tape, USUAL) {
         return 1;
     }
     0

@@ -30,10 +30,11 @@ fn tags(
     shape: u8,
     width: usize,
     tape: &mut [u64],
+    slim: bool,
     position: Position,
 ) -> Decoded
     requires { ⌜ (isWidth width ≡ true) × (source .base .0 + length (now value) < 2 ^ 32) × (position .0 < 2 ^ 59) ⌝ }
-    ensures { λ r. ⌜ Reads (numberArray width 34 55 shape width (source .registry) (now (value .entry)) (source .base .0)) (now (tape .entry)) (now (tape .exit)) (position .0) r ⌝ }
+    ensures { λ r. ⌜ Reads slim (numberArray width 34 55 shape width (source .registry) (now (value .entry)) (source .base .0)) (now (tape .entry)) (now (tape .exit)) (position .0) r ⌝ }
 {
     number_array(
         value,
@@ -44,14 +45,21 @@ fn tags(
         shape,
         width,
         tape,
+        slim,
         position,
     )
 }
 
 // Prefix attribute flags (RFC 7794, section 2.1): X | R | N | ...
-fn prefix_attributes(value: &[u8], source: Source, tape: &mut [u64], position: Position) -> Decoded
+fn prefix_attributes(
+    value: &[u8],
+    source: Source,
+    tape: &mut [u64],
+    slim: bool,
+    position: Position,
+) -> Decoded
     requires { ⌜ (source .base .0 + length (now value) < 2 ^ 32) × (position .0 < 2 ^ 59) ⌝ }
-    ensures { λ r. ⌜ Reads (readingOf (source .registry) (now (value .entry)) (source .base .0) (usual 1 4 (now (value .entry)))) (now (tape .entry)) (now (tape .exit)) (position .0) r ⌝ }
+    ensures { λ r. ⌜ Reads slim (readingOf (source .registry) (now (value .entry)) (source .base .0) (usual 1 4 (now (value .entry)))) (now (tape .entry)) (now (tape .exit)) (position .0) r ⌝ }
 {
     if value.len() < 1 {
         return Decoded {
@@ -59,10 +67,10 @@ fn prefix_attributes(value: &[u8], source: Source, tape: &mut [u64], position: P
             next: position,
         };
     }
-    let second = number8(value, source, Label::FLAGS, 0, tape, position);
-    let third = flag(value, source, Label::FLAG_X, 0x80, tape, second);
-    let fourth = flag(value, source, Label::FLAG_R, 0x40, tape, third);
-    let next = flag(value, source, Label::FLAG_N, 0x20, tape, fourth);
+    let second = number8(value, source, Label::FLAGS, 0, tape, slim, position);
+    let third = flag(value, source, Label::FLAG_X, 0x80, tape, slim, second);
+    let fourth = flag(value, source, Label::FLAG_R, 0x40, tape, slim, third);
+    let next = flag(value, source, Label::FLAG_N, 0x20, tape, slim, fourth);
     Decoded {
         taken: Taken::Octets(1),
         next,
@@ -70,29 +78,50 @@ fn prefix_attributes(value: &[u8], source: Source, tape: &mut [u64], position: P
 }
 
 // What stands before the SID of an SRv6 End SID (RFC 9352, section 7.2): Flags | Endpoint Behavior.
-pub fn end_head(value: &[u8], source: Source, tape: &mut [u64], position: Position) -> Position
+pub fn end_head(
+    value: &[u8],
+    source: Source,
+    tape: &mut [u64],
+    slim: bool,
+    position: Position,
+) -> Position
     requires { ⌜ (3 ≤ length (now value)) × (source .base .0 + length (now value) < 2 ^ 32) × (position .0 < 2 ^ 59) ⌝ }
-    ensures { λ r. ⌜ Laid (endHead (source .registry) (now (value .entry)) (source .base .0)) (now (tape .entry)) (now (tape .exit)) (position .0) (r .0) ⌝ }
+    ensures { λ r. ⌜ Laid slim (endHead (source .registry) (now (value .entry)) (source .base .0)) (now (tape .entry)) (now (tape .exit)) (position .0) (r .0) ⌝ }
 {
-    let second = number8(value, source, Label::FLAGS, 0, tape, position);
-    number16(value, source, Label::ENDPOINT_BEHAVIOR, 1, tape, second)
+    let second = number8(value, source, Label::FLAGS, 0, tape, slim, position);
+    number16(
+        value,
+        source,
+        Label::ENDPOINT_BEHAVIOR,
+        1,
+        tape,
+        slim,
+        second,
+    )
 }
 
 // A value by its type; type 3 is read with other SIDs, type 5 holds an area of its own.
-pub fn prefix(value: &[u8], kind: u8, base: Octet, tape: &mut [u64], at: Position) -> Decoded
+pub fn prefix(
+    value: &[u8],
+    kind: u8,
+    base: Octet,
+    tape: &mut [u64],
+    slim: bool,
+    at: Position,
+) -> Decoded
     requires { ⌜ (kind ≡ 3 → ⊥) × (kind ≡ 5 → ⊥) × (base .0 + length (now value) < 2 ^ 32) × (at .0 < 2 ^ 59) ⌝ }
-    ensures { λ r. ⌜ Reads (reading 1 kind (now (value .entry)) (base .0)) (now (tape .entry)) (now (tape .exit)) (at .0) r ⌝ }
+    ensures { λ r. ⌜ Reads slim (reading 1 kind (now (value .entry)) (base .0)) (now (tape .entry)) (now (tape .exit)) (at .0) r ⌝ }
 {
     let source = Source {
         registry: Prefix::NUMBER as u8,
         base,
     };
     match kind {
-        1 => tags(value, source, Shape::U32, 4, tape, at),
-        2 => tags(value, source, Shape::U64, 8, tape, at),
-        4 => prefix_attributes(value, source, tape, at),
-        11 => ipv4(value, source, Label::IPV4_SOURCE_ROUTER_ID, tape, at),
-        12 => ipv6(value, source, Label::IPV6_SOURCE_ROUTER_ID, tape, at),
+        1 => tags(value, source, Shape::U32, 4, tape, slim, at),
+        2 => tags(value, source, Shape::U64, 8, tape, slim, at),
+        4 => prefix_attributes(value, source, tape, slim, at),
+        11 => ipv4(value, source, Label::IPV4_SOURCE_ROUTER_ID, tape, slim, at),
+        12 => ipv6(value, source, Label::IPV6_SOURCE_ROUTER_ID, tape, slim, at),
         _ => Decoded {
             taken: Taken::Nothing,
             next: at,

@@ -21,9 +21,15 @@ ghost use Rattle.readings.specs.Reading.{Reads, readingOf, reading};
 ghost use Rattle.readings.specs.Rows.{numberArray};
 
 // SR-Capabilities and SR Local Block (RFC 8667, sections 3.1 and 3.3): Flags | ranges.
-fn flags_and_ranges(value: &[u8], source: Source, tape: &mut [u64], position: Position) -> Decoded
+fn flags_and_ranges(
+    value: &[u8],
+    source: Source,
+    tape: &mut [u64],
+    slim: bool,
+    position: Position,
+) -> Decoded
     requires { ⌜ (source .base .0 + length (now value) < 2 ^ 32) × (position .0 < 2 ^ 59) ⌝ }
-    ensures { λ r. ⌜ Reads (readingOf (source .registry) (now (value .entry)) (source .base .0) (usual 2 2 (now (value .entry)))) (now (tape .entry)) (now (tape .exit)) (position .0) r ⌝ }
+    ensures { λ r. ⌜ Reads slim (readingOf (source .registry) (now (value .entry)) (source .base .0) (usual 2 2 (now (value .entry)))) (now (tape .entry)) (now (tape .exit)) (position .0) r ⌝ }
 {
     let n = value.len();
     if n < 1 {
@@ -32,12 +38,12 @@ fn flags_and_ranges(value: &[u8], source: Source, tape: &mut [u64], position: Po
             next: position,
         };
     }
-    let second = number8(value, source, Label::FLAGS, 0, tape, position);
+    let second = number8(value, source, Label::FLAGS, 0, tape, slim, position);
     let behind = Source {
         registry: source.registry,
         base: Octet(source.base.0 + 1),
     };
-    let shown = ranges(&value[1..n], behind, tape, second);
+    let shown = ranges(&value[1..n], behind, tape, slim, second);
     let covered = shown.covered;
     let next = shown.next;
     Decoded {
@@ -47,9 +53,15 @@ fn flags_and_ranges(value: &[u8], source: Source, tape: &mut [u64], position: Po
 }
 
 // SR-Algorithm (RFC 8667, section 3.2).
-fn algorithms(value: &[u8], source: Source, tape: &mut [u64], position: Position) -> Decoded
+fn algorithms(
+    value: &[u8],
+    source: Source,
+    tape: &mut [u64],
+    slim: bool,
+    position: Position,
+) -> Decoded
     requires { ⌜ (source .base .0 + length (now value) < 2 ^ 32) × (position .0 < 2 ^ 59) ⌝ }
-    ensures { λ r. ⌜ Reads (numberArray 0 41 56 0 1 (source .registry) (now (value .entry)) (source .base .0)) (now (tape .entry)) (now (tape .exit)) (position .0) r ⌝ }
+    ensures { λ r. ⌜ Reads slim (numberArray 0 41 56 0 1 (source .registry) (now (value .entry)) (source .base .0)) (now (tape .entry)) (now (tape .exit)) (position .0) r ⌝ }
 {
     number_array(
         value,
@@ -60,16 +72,23 @@ fn algorithms(value: &[u8], source: Source, tape: &mut [u64], position: Position
         Shape::U8,
         1,
         tape,
+        slim,
         position,
     )
 }
 
 // Node MSD (RFC 8491, section 2): MSD-Type | MSD-Value, and so on.
-fn node_msd(value: &[u8], source: Source, tape: &mut [u64], position: Position) -> Decoded
+fn node_msd(
+    value: &[u8],
+    source: Source,
+    tape: &mut [u64],
+    slim: bool,
+    position: Position,
+) -> Decoded
     requires { ⌜ (source .base .0 + length (now value) < 2 ^ 32) × (position .0 < 2 ^ 59) ⌝ }
-    ensures { λ r. ⌜ Reads (readingOf (source .registry) (now (value .entry)) (source .base .0) (usual 2 23 (now (value .entry)))) (now (tape .entry)) (now (tape .exit)) (position .0) r ⌝ }
+    ensures { λ r. ⌜ Reads slim (readingOf (source .registry) (now (value .entry)) (source .base .0) (usual 2 23 (now (value .entry)))) (now (tape .entry)) (now (tape .exit)) (position .0) r ⌝ }
 {
-    let shown = msds(value, source, tape, position);
+    let shown = msds(value, source, tape, slim, position);
     let covered = shown.covered;
     let next = shown.next;
     Decoded {
@@ -79,9 +98,15 @@ fn node_msd(value: &[u8], source: Source, tape: &mut [u64], position: Position) 
 }
 
 // SRMS preference (RFC 8667, section 3.4).
-fn preference(value: &[u8], source: Source, tape: &mut [u64], position: Position) -> Decoded
+fn preference(
+    value: &[u8],
+    source: Source,
+    tape: &mut [u64],
+    slim: bool,
+    position: Position,
+) -> Decoded
     requires { ⌜ (source .base .0 + length (now value) < 2 ^ 32) × (position .0 < 2 ^ 59) ⌝ }
-    ensures { λ r. ⌜ Reads (readingOf (source .registry) (now (value .entry)) (source .base .0) (usual 2 24 (now (value .entry)))) (now (tape .entry)) (now (tape .exit)) (position .0) r ⌝ }
+    ensures { λ r. ⌜ Reads slim (readingOf (source .registry) (now (value .entry)) (source .base .0) (usual 2 24 (now (value .entry)))) (now (tape .entry)) (now (tape .exit)) (position .0) r ⌝ }
 {
     if value.len() < 1 {
         return Decoded {
@@ -89,7 +114,7 @@ fn preference(value: &[u8], source: Source, tape: &mut [u64], position: Position
             next: position,
         };
     }
-    let next = number8(value, source, Label::PREFERENCE, 0, tape, position);
+    let next = number8(value, source, Label::PREFERENCE, 0, tape, slim, position);
     Decoded {
         taken: Taken::Octets(1),
         next,
@@ -102,22 +127,23 @@ pub fn router_capability(
     kind: u8,
     base: Octet,
     tape: &mut [u64],
+    slim: bool,
     at: Position,
 ) -> Decoded
     requires { ⌜ (kind ≡ 25 → ⊥) × (base .0 + length (now value) < 2 ^ 32) × (at .0 < 2 ^ 59) ⌝ }
-    ensures { λ r. ⌜ Reads (reading 2 kind (now (value .entry)) (base .0)) (now (tape .entry)) (now (tape .exit)) (at .0) r ⌝ }
+    ensures { λ r. ⌜ Reads slim (reading 2 kind (now (value .entry)) (base .0)) (now (tape .entry)) (now (tape .exit)) (at .0) r ⌝ }
 {
     let source = Source {
         registry: RouterCapability::NUMBER as u8,
         base,
     };
     match kind {
-        2 | 22 => flags_and_ranges(value, source, tape, at),
-        11 => ipv4(value, source, Label::IPV4_TE_ROUTER_ID, tape, at),
-        12 => ipv6(value, source, Label::IPV6_TE_ROUTER_ID, tape, at),
-        19 => algorithms(value, source, tape, at),
-        23 => node_msd(value, source, tape, at),
-        24 => preference(value, source, tape, at),
+        2 | 22 => flags_and_ranges(value, source, tape, slim, at),
+        11 => ipv4(value, source, Label::IPV4_TE_ROUTER_ID, tape, slim, at),
+        12 => ipv6(value, source, Label::IPV6_TE_ROUTER_ID, tape, slim, at),
+        19 => algorithms(value, source, tape, slim, at),
+        23 => node_msd(value, source, tape, slim, at),
+        24 => preference(value, source, tape, slim, at),
         _ => Decoded {
             taken: Taken::Nothing,
             next: at,

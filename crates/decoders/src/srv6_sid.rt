@@ -13,9 +13,15 @@ ghost use Rattle.meaning.specs.Table.{usual};
 ghost use Rattle.readings.specs.Reading.{Reads, readingOf, reading};
 
 // SRv6 SID Structure (RFC 9352, section 9): LB Length | LN Length | Fun. Length | Arg. Length.
-fn sid_structure(value: &[u8], source: Source, tape: &mut [u64], position: Position) -> Decoded
+fn sid_structure(
+    value: &[u8],
+    source: Source,
+    tape: &mut [u64],
+    slim: bool,
+    position: Position,
+) -> Decoded
     requires { ⌜ (source .base .0 + length (now value) < 2 ^ 32) × (position .0 < 2 ^ 59) ⌝ }
-    ensures { λ r. ⌜ Reads (readingOf (source .registry) (now (value .entry)) (source .base .0) (usual 4 1 (now (value .entry)))) (now (tape .entry)) (now (tape .exit)) (position .0) r ⌝ }
+    ensures { λ r. ⌜ Reads slim (readingOf (source .registry) (now (value .entry)) (source .base .0) (usual 4 1 (now (value .entry)))) (now (tape .entry)) (now (tape .exit)) (position .0) r ⌝ }
 {
     if value.len() < 4 {
         return Decoded {
@@ -29,11 +35,20 @@ fn sid_structure(value: &[u8], source: Source, tape: &mut [u64], position: Posit
         Label::LOCATOR_BLOCK_LENGTH,
         0,
         tape,
+        slim,
         position,
     );
-    let third = number8(value, source, Label::LOCATOR_NODE_LENGTH, 1, tape, second);
-    let fourth = number8(value, source, Label::FUNCTION_LENGTH, 2, tape, third);
-    let next = number8(value, source, Label::ARGUMENT_LENGTH, 3, tape, fourth);
+    let third = number8(
+        value,
+        source,
+        Label::LOCATOR_NODE_LENGTH,
+        1,
+        tape,
+        slim,
+        second,
+    );
+    let fourth = number8(value, source, Label::FUNCTION_LENGTH, 2, tape, slim, third);
+    let next = number8(value, source, Label::ARGUMENT_LENGTH, 3, tape, slim, fourth);
     Decoded {
         taken: Taken::Octets(4),
         next,
@@ -41,16 +56,23 @@ fn sid_structure(value: &[u8], source: Source, tape: &mut [u64], position: Posit
 }
 
 // A value by its type.
-pub fn srv6_sid(value: &[u8], kind: u8, base: Octet, tape: &mut [u64], at: Position) -> Decoded
+pub fn srv6_sid(
+    value: &[u8],
+    kind: u8,
+    base: Octet,
+    tape: &mut [u64],
+    slim: bool,
+    at: Position,
+) -> Decoded
     requires { ⌜ (base .0 + length (now value) < 2 ^ 32) × (at .0 < 2 ^ 59) ⌝ }
-    ensures { λ r. ⌜ Reads (reading 4 kind (now (value .entry)) (base .0)) (now (tape .entry)) (now (tape .exit)) (at .0) r ⌝ }
+    ensures { λ r. ⌜ Reads slim (reading 4 kind (now (value .entry)) (base .0)) (now (tape .entry)) (now (tape .exit)) (at .0) r ⌝ }
 {
     let source = Source {
         registry: Srv6Sid::NUMBER as u8,
         base,
     };
     match kind {
-        1 => sid_structure(value, source, tape, at),
+        1 => sid_structure(value, source, tape, slim, at),
         _ => Decoded {
             taken: Taken::Nothing,
             next: at,

@@ -1,4 +1,4 @@
-// dump (document 01): reads a registry octet, four octets of base and an area of up to 512 octets on standard input, pushes the
+// dump (document 01): reads a registry octet, four octets of base and an area of up to 768 octets on standard input, pushes the
 // area onto a clear tape and prints the outcome, then the records. A refusal prints the first line only.
 use calls::clear;
 use calls::read;
@@ -11,6 +11,7 @@ use tape::Octet;
 use tape::Position;
 use tape::Record;
 ghost use mathlib.Core.Path.{_≡_};
+ghost use mathlib.Core.Bool.{true};
 ghost use Rattle.outcome.specs.Call.{Gives};
 ghost use Rattle.calls.specs.Calls.{readCall};
 ghost use Rattle.meaning.specs.Dump.{dumpCall, columns};
@@ -19,13 +20,16 @@ ghost use Rattle.meaning.specs.Dump.{dumpCall, columns};
 const NOT_TAKEN: u8 = 10;
 
 // The longest area that is taken.
-const LONGEST: usize = 512;
+const LONGEST: usize = 768;
 
 // The octets that are read: one more than are taken, to tell a longer input.
 const READ: usize = 5 + LONGEST + 1;
 
+// The tape has records of four words.
+const SLIM: bool = true;
+
 // The words of the tape: room for the 1 + 7n/3 records that the longest area can need.
-const WORDS: usize = 4 + 6 * (1 + 7 * LONGEST / 3);
+const WORDS: usize = 4 + 4 * (1 + 7 * LONGEST / 3);
 
 // What the program answers to its input: 10 by its length, or a push of its area onto the tape.
 fn dump_call(input: &[u8], tape: &mut [u64]) -> Outcome
@@ -40,7 +44,7 @@ fn dump_call(input: &[u8], tape: &mut [u64]) -> Outcome
     }
     let registry = octet(input, 0) as u64;
     let base = read_be_u32(input, 1) as usize;
-    subtlv::push(&input[5..], Octet(base), registry, tape)
+    subtlv::push(&input[5..], Octet(base), registry, tape, SLIM)
 }
 
 // The columns of a record: position, label, shape, registry, words 1 to 5.
@@ -62,9 +66,9 @@ fn columns(r: Record, at: usize) -> [u64; 9]
 
 // The columns of the record at a position.
 fn columns_at(tape: &[u64], at: usize) -> [u64; 9]
-    ensures { λ line. ⌜ line ≡ columns at (readCall (now (tape .entry)) at .«record») ⌝ }
+    ensures { λ line. ⌜ line ≡ columns at (readCall true (now (tape .entry)) at .«record») ⌝ }
 {
-    let reading = read(tape, Position(at));
+    let reading = read(tape, SLIM, Position(at));
     let record = reading.record;
     columns(record, at)
 }
@@ -100,7 +104,7 @@ fn main() {
     let mut input = [0u8; READ];
     let n = io::read_full(STDIN_FILENO, &mut input);
     let mut tape = [0u64; WORDS];
-    clear(&mut tape);
+    clear(&mut tape, SLIM);
     let outcome = dump_call(&input[..n], &mut tape);
     print_all(outcome, &tape);
 }

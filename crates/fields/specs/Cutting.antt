@@ -1,4 +1,5 @@
 -- One law for every loop that lays pieces one after the other, and then the array in front of them.
+use mathlib.Core.Bool.{Bool}
 use mathlib.Core.Path.{_≡_, refl, sym, _∙_}
 use mathlib.Core.List.{List}
 use Prim.Native.Nat.{ℕ, _+_, _≤_, _<_}
@@ -19,19 +20,19 @@ use Rattle.fields.specs.Shows.{Shows, arrayBy}
 use Rattle.fields.specs.declared.Shown.{Shown}
 
 -- pieces cut by m out of s, whose first octet stands at base: those before octet i are laid from position at up to next
-pub record Cutting (m : Measure) (f : List ℕ → ℕ → Forest) (base : ℕ) (s t u : List ℕ) (at i next : ℕ) : Type 0 where
+pub record Cutting (slim : Bool) (m : Measure) (f : List ℕ → ℕ → Forest) (base : ℕ) (s t u : List ℕ) (at i next : ℕ) : Type 0 where
   pub inside : i ≤ length s
   pub same : length u ≡ length t
-  pub laying : Laying (left m f base s) (more m f base s) t u at i next
+  pub laying : Laying slim (left m f base s) (more m f base s) t u at i next
 
 -- before the first turn
-pub cutting-start : (m : Measure) (f : List ℕ → ℕ → Forest) (base : ℕ) (s t : List ℕ) (at : ℕ) → Cutting m f base s t t at 0 at
+pub cutting-start : {slim : Bool} (m : Measure) (f : List ℕ → ℕ → Forest) (base : ℕ) (s t : List ℕ) (at : ℕ) → Cutting slim m f base s t t at 0 at
 cutting-start m f base s t at = record { inside = omega arith; same = refl; laying = laying-start (left m f base s) (more m f base s) t at }
 
-module _ {m : Measure} (fits : (xs : List ℕ) → m xs ≤ length xs) {f : List ℕ → ℕ → Forest} {base : ℕ} {s t u : List ℕ} where
+module _ {m : Measure} (fits : (xs : List ℕ) → m xs ≤ length xs) {f : List ℕ → ℕ → Forest} {base : ℕ} {slim : Bool} {s t u : List ℕ} where
   -- one turn, over a piece of w octets
-  pub cutting-step : {v : List ℕ} {at i next next′ : ℕ} (w : ℕ) → Cutting m f base s t u at i next → m (drop i s) ≡ w → 0 < w
-      → Laid (f (take w (drop i s)) (base + i)) u v next next′ → Cutting m f base s t v at (i + w) next′
+  pub cutting-step : {v : List ℕ} {at i next next′ : ℕ} (w : ℕ) → Cutting slim m f base s t u at i next → m (drop i s) ≡ w → 0 < w
+      → Laid slim (f (take w (drop i s)) (base + i)) u v next next′ → Cutting slim m f base s t v at (i + w) next′
   cutting-step {i = i} w c is some laid =
       record {
         inside = omega (arith, c .inside, rw is at (fits (drop i s)), length-drop i s);
@@ -40,28 +41,28 @@ module _ {m : Measure} (fits : (xs : List ℕ) → m xs ≤ length xs) {f : List
       }
 
   -- after the last turn the array is put in front
-  pub cutting-end : {v : List ℕ} {position i : ℕ} {r : Shown} (label registry : ℕ) → Cutting m f base s t u (position + 1) i (r .next .0) → m (drop i s) ≡ 0
-      → v ≡ putAt u position (containerRecord (content label 7 registry base (base + i) 0) (position + 1) (r .next .0)) → r .covered ≡ i
-      → Shows (total (pieces m s)) (arrayBy label registry f base (pieces m s)) t v position r
+  pub cutting-end : {v : List ℕ} {position i : ℕ} {r : Shown} (label registry : ℕ) → Cutting slim m f base s t u (position + 1) i (r .next .0) → m (drop i s) ≡ 0
+      → v ≡ putAt slim u position (containerRecord (content label 7 registry base (base + i) 0) (position + 1) (r .next .0)) → r .covered ≡ i
+      → Shows slim (total (pieces m s)) (arrayBy label registry f base (pieces m s)) t v position r
   cutting-end {v} {position} {i} {r} label registry c stops put covers =
       let e = laying-end (c .laying) (left-end m fits f base s i stops) (more-end m fits f base s i stops) in
-      let k : Laid (each f base (pieces m s)) t u (position + 1) (r .next .0) = rw add-zero at (e .0) in
+      let k : Laid slim (each f base (pieces m s)) t u (position + 1) (r .next .0) = rw add-zero at (e .0) in
       record { covers = covers ∙ e .1; laid = rw (← e .1) (laid-node (content label 7 registry base (base + i) 0) k put) }
 
 -- the same, for a loop over what is left of s: those octets, of which the first stands at place
-pub record CutOff (m : Measure) (f : List ℕ → ℕ → Forest) (base : ℕ) (s t u : List ℕ) (at : ℕ) (octets : List ℕ) (place next : ℕ) : Type 0 where
+pub record CutOff (slim : Bool) (m : Measure) (f : List ℕ → ℕ → Forest) (base : ℕ) (s t u : List ℕ) (at : ℕ) (octets : List ℕ) (place next : ℕ) : Type 0 where
   pub cut : ℕ
   pub rest : octets ≡ drop cut s
   pub there : place ≡ base + cut
-  pub cutting : Cutting m f base s t u at cut next
+  pub cutting : Cutting slim m f base s t u at cut next
 
 -- before the first turn
-pub cut-off-start : (m : Measure) (f : List ℕ → ℕ → Forest) (base : ℕ) (s t : List ℕ) (at : ℕ) → CutOff m f base s t t at s base at
+pub cut-off-start : {slim : Bool} (m : Measure) (f : List ℕ → ℕ → Forest) (base : ℕ) (s t : List ℕ) (at : ℕ) → CutOff slim m f base s t t at s base at
 cut-off-start m f base s t at = record { cut = 0; rest = refl; there = sym (add-zero base); cutting = cutting-start m f base s t at }
 
 -- one turn, over a piece of w octets
-pub cut-off-step : {m : Measure} (fits : (xs : List ℕ) → m xs ≤ length xs) {f : List ℕ → ℕ → Forest} {base : ℕ} {s t u v octets : List ℕ} {at place next next′ : ℕ} (w : ℕ)
-    → CutOff m f base s t u at octets place next → m octets ≡ w → 0 < w → Laid (f (take w octets) place) u v next next′ → CutOff m f base s t v at (drop w octets) (place + w) next′
+pub cut-off-step : {m : Measure} (fits : (xs : List ℕ) → m xs ≤ length xs) {f : List ℕ → ℕ → Forest} {base : ℕ} {slim : Bool} {s t u v octets : List ℕ} {at place next next′ : ℕ} (w : ℕ)
+    → CutOff slim m f base s t u at octets place next → m octets ≡ w → 0 < w → Laid slim (f (take w octets) place) u v next next′ → CutOff slim m f base s t v at (drop w octets) (place + w) next′
 cut-off-step fits {s = s} w c is some laid =
     record {
       cut = c .cut + w;

@@ -1,4 +1,5 @@
 -- Elements of arrays, out of their parts.
+use mathlib.Core.Bool.{Bool}
 use mathlib.Core.Path.{_≡_}
 use mathlib.Core.List.{List}
 use Prim.Native.Nat.{ℕ, _+_, _≤_}
@@ -20,12 +21,12 @@ use Rattle.meaning.specs.SidLaws.{size-sid-le}
 use Rattle.fields.specs.Shows.{sidWidth, sidNumber}
 use Rattle.fields.specs.ShowsLaws.{sid-shown}
 
-module _ (registry base : ℕ) (p : List ℕ) {t u v w : List ℕ} {at mid next : ℕ} where
+module _ (registry base : ℕ) (p : List ℕ) {slim : Bool} {t u v w : List ℕ} {at mid next : ℕ} where
   -- an MSD: its type, its value, and the object in front of them
-  pub msd-made : Laid (leaf (content 52 0 registry (base + 0) (base + 0 + 1) (bigEndian p 0 1)) none) t u (at + 1) mid
-      → Laid (leaf (content 53 0 registry (base + 1) (base + 1 + 1) (bigEndian p 1 1)) none) u v mid next
-      → w ≡ putAt v at (containerRecord (content 51 8 registry base (base + 2) 0) (at + 1) next)
-      → Laid (elementTrees msds registry p base) t w at next
+  pub msd-made : Laid slim (leaf (content 52 0 registry (base + 0) (base + 0 + 1) (bigEndian p 0 1)) none) t u (at + 1) mid
+      → Laid slim (leaf (content 53 0 registry (base + 1) (base + 1 + 1) (bigEndian p 1 1)) none) u v mid next
+      → w ≡ putAt slim v at (containerRecord (content 51 8 registry base (base + 2) 0) (at + 1) next)
+      → Laid slim (elementTrees msds registry p base) t w at next
   unfolding elementTrees _⧺_
   msd-made first second put =
       laid-node (content 51 8 registry base (base + 2) 0)
@@ -34,10 +35,10 @@ module _ (registry base : ℕ) (p : List ℕ) {t u v w : List ℕ} {at mid next 
 
   -- a range: its size, its SID, and the object in front of them
   pub range-made : 8 ≤ length p
-      → Laid (leaf (content 49 2 registry (base + 0) (base + 0 + 3) (bigEndian p 0 3)) none) t u (at + 1) mid
-      → Laid (leaf (content 50 2 registry (base + 5) (base + 5 + sidWidth p 5) (sidNumber p 5)) none) u v mid next
-      → w ≡ putAt v at (containerRecord (content 48 8 registry base (base + length p) 0) (at + 1) next)
-      → Laid (elementTrees ranges registry p base) t w at next
+      → Laid slim (leaf (content 49 2 registry (base + 0) (base + 0 + 3) (bigEndian p 0 3)) none) t u (at + 1) mid
+      → Laid slim (leaf (content 50 2 registry (base + 5) (base + 5 + sidWidth p 5) (sidNumber p 5)) none) u v mid next
+      → w ≡ putAt slim v at (containerRecord (content 48 8 registry base (base + length p) 0) (at + 1) next)
+      → Laid slim (elementTrees ranges registry p base) t w at next
   unfolding elementTrees
   range-made long size sid put =
       laid-node (content 48 8 registry base (base + length p) 0)

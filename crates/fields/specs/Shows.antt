@@ -1,6 +1,6 @@
 -- What functions that lay the fields of a value promise.
 use mathlib.Core.Path.{_≡_}
-use mathlib.Core.Bool.{cond}
+use mathlib.Core.Bool.{Bool, cond}
 use mathlib.Core.List.{List}
 use Prim.Native.Nat.{ℕ, _+_, _%_, _^_}
 use lib.Dec.{leb}
@@ -13,9 +13,9 @@ use Rattle.meaning.specs.Cut.{total, each}
 use Rattle.fields.specs.declared.Shown.{Shown}
 
 -- trees were laid, up to an octet
-pub record Shows (octets : ℕ) (trees : Forest) (t u : List ℕ) (at : ℕ) (r : Shown) : Type 0 where
+pub record Shows (slim : Bool) (octets : ℕ) (trees : Forest) (t u : List ℕ) (at : ℕ) (r : Shown) : Type 0 where
   pub covers : r .covered ≡ octets
-  pub laid : Laid trees t u at (r .next .0)
+  pub laid : Laid slim trees t u at (r .next .0)
 
 -- how many octets a SID has, where 3 are left or more ..
 abbrev pub sidWidth : List ℕ → ℕ → ℕ

@@ -53,7 +53,7 @@ module _ (v : List ℕ) (at : ℕ) where
       go false = refl
 
   -- so what is laid by its width and its number is the definition's SID
-  pub shown-sid : (label : Label) (registry base : ℕ) {t u : List ℕ} {position : ℕ} {r : Shown} → at + 3 ≤ length v
-      → Shows (at + sidWidth v at) (leaf (content (number label) 2 registry (base + at) (base + at + sidWidth v at) (sidNumber v at)) none) t u position r
-      → Shows (sidEnd v at) (sidTrees label registry v base at) t u position r
+  pub shown-sid : (label : Label) (registry base : ℕ) {slim : Bool} {t u : List ℕ} {position : ℕ} {r : Shown} → at + 3 ≤ length v
+      → Shows slim (at + sidWidth v at) (leaf (content (number label) 2 registry (base + at) (base + at + sidWidth v at) (sidNumber v at)) none) t u position r
+      → Shows slim (sidEnd v at) (sidTrees label registry v base at) t u position r
   shown-sid label registry base there h = rw (sid-ends there, sid-shown label registry base there) h

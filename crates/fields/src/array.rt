@@ -33,11 +33,12 @@ pub fn container(
     shape: u8,
     width: usize,
     tape: &mut [u64],
+    slim: bool,
     position: Position,
     next: Position,
 )
     requires { ⌜ (source .base .0 + width < 2 ^ 32) × (position .0 < 2 ^ 60) ⌝ }
-    ensures { λ _. ⌜ now (tape .exit) ≡ putAt (now (tape .entry)) (position .0) (containerRecord (content label shape (source .registry) (source .base .0) (source .base .0 + width) 0) (position .0 + 1) (next .0)) ⌝ }
+    ensures { λ _. ⌜ now (tape .exit) ≡ putAt slim (now (tape .entry)) (position .0) (containerRecord (content label shape (source .registry) (source .base .0) (source .base .0 + width) 0) (position .0 + 1) (next .0)) ⌝ }
 {
     let start = source.base.0;
     let content = Content {
@@ -48,7 +49,7 @@ pub fn container(
         end: Octet(start + width),
         number: 0,
     };
-    lay::container(tape, position, content, next)
+    lay::container(tape, slim, position, content, next)
 }
 
 // Lays an array of numbers of one width.
@@ -60,38 +61,54 @@ pub fn numbers(
     shape: u8,
     width: usize,
     tape: &mut [u64],
+    slim: bool,
     position: Position,
 ) -> Shown
     requires { ⌜ (isWidth width ≡ true) × (source .base .0 + length (now octets) < 2 ^ 32) × (position .0 + 3 * length (now octets) + 3 < 2 ^ 60) ⌝ }
-    ensures { λ r. ⌜ Shows (total (pieces (whole width) (now (octets .entry)))) (arrayBy array (source .registry) (numberTrees label shape width (source .registry)) (source .base .0) (pieces (whole width) (now (octets .entry)))) (now (tape .entry)) (now (tape .exit)) (position .0) r ⌝ }
+    ensures { λ r. ⌜ Shows slim (total (pieces (whole width) (now (octets .entry)))) (arrayBy array (source .registry) (numberTrees label shape width (source .registry)) (source .base .0) (pieces (whole width) (now (octets .entry)))) (now (tape .entry)) (now (tape .exit)) (position .0) r ⌝ }
 {
     let n = octets.len();
     let mut at = 0;
     let mut next = Position(position.0 + 1);
     while width <= n - at {
-        next = number(octets, source, label, shape, at, width, tape, next);
+        next = number(octets, source, label, shape, at, width, tape, slim, next);
         at = at + width;
     }
-    container(source, array, Shape::ARRAY, at, tape, position, next);
+    container(source, array, Shape::ARRAY, at, tape, slim, position, next);
     Shown { covered: at, next }
 }
 
 // Lays an MSD: its type and its value.
-fn msd(octets: &[u8], source: Source, tape: &mut [u64], position: Position) -> Position
+fn msd(octets: &[u8], source: Source, tape: &mut [u64], slim: bool, position: Position) -> Position
     requires { ⌜ (length (now octets) ≡ 2) × (source .base .0 + 2 < 2 ^ 32) × (position .0 + 3 < 2 ^ 60) ⌝ }
-    ensures { λ r. ⌜ Laid (elementTrees msdElement (source .registry) (now (octets .entry)) (source .base .0)) (now (tape .entry)) (now (tape .exit)) (position .0) (r .0) ⌝ }
+    ensures { λ r. ⌜ Laid slim (elementTrees msdElement (source .registry) (now (octets .entry)) (source .base .0)) (now (tape .entry)) (now (tape .exit)) (position .0) (r .0) ⌝ }
 {
     let first = Position(position.0 + 1);
-    let second = number8(octets, source, Label::MSD_TYPE, 0, tape, first);
-    let next = number8(octets, source, Label::MSD_VALUE, 1, tape, second);
-    container(source, Label::MSD, Shape::OBJECT, 2, tape, position, next);
+    let second = number8(octets, source, Label::MSD_TYPE, 0, tape, slim, first);
+    let next = number8(octets, source, Label::MSD_VALUE, 1, tape, slim, second);
+    container(
+        source,
+        Label::MSD,
+        Shape::OBJECT,
+        2,
+        tape,
+        slim,
+        position,
+        next,
+    );
     next
 }
 
 // Lays the array of MSDs.
-pub fn msds(octets: &[u8], source: Source, tape: &mut [u64], position: Position) -> Shown
+pub fn msds(
+    octets: &[u8],
+    source: Source,
+    tape: &mut [u64],
+    slim: bool,
+    position: Position,
+) -> Shown
     requires { ⌜ (source .base .0 + length (now octets) < 2 ^ 32) × (position .0 + 3 * length (now octets) + 3 < 2 ^ 60) ⌝ }
-    ensures { λ r. ⌜ Shows (total (pieces (whole 2) (now (octets .entry)))) (arrayBy 42 (source .registry) (elementTrees msdElement (source .registry)) (source .base .0) (pieces (whole 2) (now (octets .entry)))) (now (tape .entry)) (now (tape .exit)) (position .0) r ⌝ }
+    ensures { λ r. ⌜ Shows slim (total (pieces (whole 2) (now (octets .entry)))) (arrayBy 42 (source .registry) (elementTrees msdElement (source .registry)) (source .base .0) (pieces (whole 2) (now (octets .entry)))) (now (tape .entry)) (now (tape .exit)) (position .0) r ⌝ }
 {
     let n = octets.len();
     let registry = source.registry;
@@ -103,10 +120,19 @@ pub fn msds(octets: &[u8], source: Source, tape: &mut [u64], position: Position)
             registry,
             base: Octet(base + at),
         };
-        next = msd(&octets[at..at + 2], here, tape, next);
+        next = msd(&octets[at..at + 2], here, tape, slim, next);
         at = at + 2;
     }
-    container(source, Label::MSDS, Shape::ARRAY, at, tape, position, next);
+    container(
+        source,
+        Label::MSDS,
+        Shape::ARRAY,
+        at,
+        tape,
+        slim,
+        position,
+        next,
+    );
     Shown { covered: at, next }
 }
 
@@ -133,23 +159,44 @@ fn range_length(octets: &[u8], at: usize) -> usize
 }
 
 // Lays a range: its size and its SID.
-fn range(octets: &[u8], source: Source, tape: &mut [u64], position: Position) -> Position
+fn range(
+    octets: &[u8],
+    source: Source,
+    tape: &mut [u64],
+    slim: bool,
+    position: Position,
+) -> Position
     requires { ⌜ (8 ≤ length (now octets)) × (source .base .0 + length (now octets) < 2 ^ 32) × (position .0 + 3 < 2 ^ 60) ⌝ }
-    ensures { λ r. ⌜ Laid (elementTrees rangeElement (source .registry) (now (octets .entry)) (source .base .0)) (now (tape .entry)) (now (tape .exit)) (position .0) (r .0) ⌝ }
+    ensures { λ r. ⌜ Laid slim (elementTrees rangeElement (source .registry) (now (octets .entry)) (source .base .0)) (now (tape .entry)) (now (tape .exit)) (position .0) (r .0) ⌝ }
 {
     let n = octets.len();
     let first = Position(position.0 + 1);
-    let second = number24(octets, source, Label::RANGE_SIZE, 0, tape, first);
-    let shown = sid(octets, source, Label::RANGE_SID, 5, tape, second);
+    let second = number24(octets, source, Label::RANGE_SIZE, 0, tape, slim, first);
+    let shown = sid(octets, source, Label::RANGE_SID, 5, tape, slim, second);
     let next = shown.next;
-    container(source, Label::RANGE, Shape::OBJECT, n, tape, position, next);
+    container(
+        source,
+        Label::RANGE,
+        Shape::OBJECT,
+        n,
+        tape,
+        slim,
+        position,
+        next,
+    );
     next
 }
 
 // Lays the array of ranges.
-pub fn ranges(octets: &[u8], source: Source, tape: &mut [u64], position: Position) -> Shown
+pub fn ranges(
+    octets: &[u8],
+    source: Source,
+    tape: &mut [u64],
+    slim: bool,
+    position: Position,
+) -> Shown
     requires { ⌜ (source .base .0 + length (now octets) < 2 ^ 32) × (position .0 + 3 * length (now octets) + 3 < 2 ^ 60) ⌝ }
-    ensures { λ r. ⌜ Shows (total (pieces rangeLength (now (octets .entry)))) (arrayBy 40 (source .registry) (elementTrees rangeElement (source .registry)) (source .base .0) (pieces rangeLength (now (octets .entry)))) (now (tape .entry)) (now (tape .exit)) (position .0) r ⌝ }
+    ensures { λ r. ⌜ Shows slim (total (pieces rangeLength (now (octets .entry)))) (arrayBy 40 (source .registry) (elementTrees rangeElement (source .registry)) (source .base .0) (pieces rangeLength (now (octets .entry)))) (now (tape .entry)) (now (tape .exit)) (position .0) r ⌝ }
 {
     let registry = source.registry;
     let base = source.base.0;
@@ -161,7 +208,7 @@ pub fn ranges(octets: &[u8], source: Source, tape: &mut [u64], position: Positio
             registry,
             base: Octet(base + at),
         };
-        next = range(&octets[at..at + length], here, tape, next);
+        next = range(&octets[at..at + length], here, tape, slim, next);
         at = at + length;
         length = range_length(octets, at);
     }
@@ -171,6 +218,7 @@ pub fn ranges(octets: &[u8], source: Source, tape: &mut [u64], position: Positio
         Shape::ARRAY,
         at,
         tape,
+        slim,
         position,
         next,
     );

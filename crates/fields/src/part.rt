@@ -28,10 +28,11 @@ pub fn part(
     width: usize,
     number: u64,
     tape: &mut [u64],
+    slim: bool,
     position: Position,
 ) -> Position
     requires { ⌜ (source .base .0 + at + width < 2 ^ 32) × (position .0 < 2 ^ 60) ⌝ }
-    ensures { λ r. ⌜ Laid (leaf (content label shape (source .registry) (source .base .0 + at) (source .base .0 + at + width) number) none) (now (tape .entry)) (now (tape .exit)) (position .0) (r .0) ⌝ }
+    ensures { λ r. ⌜ Laid slim (leaf (content label shape (source .registry) (source .base .0 + at) (source .base .0 + at + width) number) none) (now (tape .entry)) (now (tape .exit)) (position .0) (r .0) ⌝ }
 {
     let start = source.base.0 + at;
     let content = Content {
@@ -42,7 +43,7 @@ pub fn part(
         end: Octet(start + width),
         number,
     };
-    lay::leaf(tape, position, content)
+    lay::leaf(tape, slim, position, content)
 }
 
 // Lays the number in the `width` octets of a value from `at` on, for the elements of an array.
@@ -54,13 +55,24 @@ pub fn number(
     at: usize,
     width: usize,
     tape: &mut [u64],
+    slim: bool,
     position: Position,
 ) -> Position
     requires { ⌜ (isWidth width ≡ true) × (at + width ≤ length (now value)) × (source .base .0 + length (now value) < 2 ^ 32) × (position .0 < 2 ^ 60) ⌝ }
-    ensures { λ r. ⌜ Laid (leaf (content label shape (source .registry) (source .base .0 + at) (source .base .0 + at + width) (bigEndian (now (value .entry)) at width)) none) (now (tape .entry)) (now (tape .exit)) (position .0) (r .0) ⌝ }
+    ensures { λ r. ⌜ Laid slim (leaf (content label shape (source .registry) (source .base .0 + at) (source .base .0 + at + width) (bigEndian (now (value .entry)) at width)) none) (now (tape .entry)) (now (tape .exit)) (position .0) (r .0) ⌝ }
 {
     let number = read_be(value, at, width);
-    part(source, label, shape, at, width, number, tape, position)
+    part(
+        source,
+        label,
+        shape,
+        at,
+        width,
+        number,
+        tape,
+        slim,
+        position,
+    )
 }
 
 // Lays the octet of a value at `at`, as a number.
@@ -70,13 +82,24 @@ pub fn number8(
     label: u8,
     at: usize,
     tape: &mut [u64],
+    slim: bool,
     position: Position,
 ) -> Position
     requires { ⌜ (at + 1 ≤ length (now value)) × (source .base .0 + length (now value) < 2 ^ 32) × (position .0 < 2 ^ 60) ⌝ }
-    ensures { λ r. ⌜ Laid (leaf (content label 0 (source .registry) (source .base .0 + at) (source .base .0 + at + 1) (bigEndian (now (value .entry)) at 1)) none) (now (tape .entry)) (now (tape .exit)) (position .0) (r .0) ⌝ }
+    ensures { λ r. ⌜ Laid slim (leaf (content label 0 (source .registry) (source .base .0 + at) (source .base .0 + at + 1) (bigEndian (now (value .entry)) at 1)) none) (now (tape .entry)) (now (tape .exit)) (position .0) (r .0) ⌝ }
 {
     let number = octet(value, at) as u64;
-    part(source, label, Shape::U8, at, 1, number, tape, position)
+    part(
+        source,
+        label,
+        Shape::U8,
+        at,
+        1,
+        number,
+        tape,
+        slim,
+        position,
+    )
 }
 
 // Lays the number in the 2 octets of a value from `at` on.
@@ -86,13 +109,24 @@ pub fn number16(
     label: u8,
     at: usize,
     tape: &mut [u64],
+    slim: bool,
     position: Position,
 ) -> Position
     requires { ⌜ (at + 2 ≤ length (now value)) × (source .base .0 + length (now value) < 2 ^ 32) × (position .0 < 2 ^ 60) ⌝ }
-    ensures { λ r. ⌜ Laid (leaf (content label 1 (source .registry) (source .base .0 + at) (source .base .0 + at + 2) (bigEndian (now (value .entry)) at 2)) none) (now (tape .entry)) (now (tape .exit)) (position .0) (r .0) ⌝ }
+    ensures { λ r. ⌜ Laid slim (leaf (content label 1 (source .registry) (source .base .0 + at) (source .base .0 + at + 2) (bigEndian (now (value .entry)) at 2)) none) (now (tape .entry)) (now (tape .exit)) (position .0) (r .0) ⌝ }
 {
     let number = read_be_u16(value, at) as u64;
-    part(source, label, Shape::U16, at, 2, number, tape, position)
+    part(
+        source,
+        label,
+        Shape::U16,
+        at,
+        2,
+        number,
+        tape,
+        slim,
+        position,
+    )
 }
 
 // Lays the number in the 3 octets of a value from `at` on.
@@ -102,13 +136,24 @@ pub fn number24(
     label: u8,
     at: usize,
     tape: &mut [u64],
+    slim: bool,
     position: Position,
 ) -> Position
     requires { ⌜ (at + 3 ≤ length (now value)) × (source .base .0 + length (now value) < 2 ^ 32) × (position .0 < 2 ^ 60) ⌝ }
-    ensures { λ r. ⌜ Laid (leaf (content label 2 (source .registry) (source .base .0 + at) (source .base .0 + at + 3) (bigEndian (now (value .entry)) at 3)) none) (now (tape .entry)) (now (tape .exit)) (position .0) (r .0) ⌝ }
+    ensures { λ r. ⌜ Laid slim (leaf (content label 2 (source .registry) (source .base .0 + at) (source .base .0 + at + 3) (bigEndian (now (value .entry)) at 3)) none) (now (tape .entry)) (now (tape .exit)) (position .0) (r .0) ⌝ }
 {
     let number = read_be_u24(value, at) as u64;
-    part(source, label, Shape::U32, at, 3, number, tape, position)
+    part(
+        source,
+        label,
+        Shape::U32,
+        at,
+        3,
+        number,
+        tape,
+        slim,
+        position,
+    )
 }
 
 // Lays the number in the 4 octets of a value from `at` on.
@@ -118,13 +163,24 @@ pub fn number32(
     label: u8,
     at: usize,
     tape: &mut [u64],
+    slim: bool,
     position: Position,
 ) -> Position
     requires { ⌜ (at + 4 ≤ length (now value)) × (source .base .0 + length (now value) < 2 ^ 32) × (position .0 < 2 ^ 60) ⌝ }
-    ensures { λ r. ⌜ Laid (leaf (content label 2 (source .registry) (source .base .0 + at) (source .base .0 + at + 4) (bigEndian (now (value .entry)) at 4)) none) (now (tape .entry)) (now (tape .exit)) (position .0) (r .0) ⌝ }
+    ensures { λ r. ⌜ Laid slim (leaf (content label 2 (source .registry) (source .base .0 + at) (source .base .0 + at + 4) (bigEndian (now (value .entry)) at 4)) none) (now (tape .entry)) (now (tape .exit)) (position .0) (r .0) ⌝ }
 {
     let number = read_be_u32(value, at) as u64;
-    part(source, label, Shape::U32, at, 4, number, tape, position)
+    part(
+        source,
+        label,
+        Shape::U32,
+        at,
+        4,
+        number,
+        tape,
+        slim,
+        position,
+    )
 }
 
 // Lays a bit of a value's octet 0, as 0 or 1.
@@ -134,10 +190,11 @@ pub fn flag(
     label: u8,
     mask: u8,
     tape: &mut [u64],
+    slim: bool,
     position: Position,
 ) -> Position
     requires { ⌜ (1 ≤ mask) × (1 ≤ length (now value)) × (source .base .0 + length (now value) < 2 ^ 32) × (position .0 < 2 ^ 60) ⌝ }
-    ensures { λ r. ⌜ Laid (leaf (content label 0 (source .registry) (source .base .0) (source .base .0 + 1) (getD (now (value .entry)) 0 0 / mask % 2)) none) (now (tape .entry)) (now (tape .exit)) (position .0) (r .0) ⌝ }
+    ensures { λ r. ⌜ Laid slim (leaf (content label 0 (source .registry) (source .base .0) (source .base .0 + 1) (getD (now (value .entry)) 0 0 / mask % 2)) none) (now (tape .entry)) (now (tape .exit)) (position .0) (r .0) ⌝ }
 {
     let bit = value[0] / mask % 2;
     let start = source.base.0;
@@ -149,5 +206,5 @@ pub fn flag(
         end: Octet(start + 1),
         number: bit as u64,
     };
-    lay::leaf(tape, position, content)
+    lay::leaf(tape, slim, position, content)
 }

@@ -43,10 +43,11 @@ pub fn sid(
     label: u8,
     at: usize,
     tape: &mut [u64],
+    slim: bool,
     position: Position,
 ) -> Shown
     requires { ⌜ (at + 3 ≤ length (now value)) × (source .base .0 + length (now value) < 2 ^ 32) × (position .0 < 2 ^ 60) ⌝ }
-    ensures { λ r. ⌜ Shows (at + sidWidth (now (value .entry)) at) (leaf (content label 2 (source .registry) (source .base .0 + at) (source .base .0 + at + sidWidth (now (value .entry)) at) (sidNumber (now (value .entry)) at)) none) (now (tape .entry)) (now (tape .exit)) (position .0) r ⌝ }
+    ensures { λ r. ⌜ Shows slim (at + sidWidth (now (value .entry)) at) (leaf (content label 2 (source .registry) (source .base .0 + at) (source .base .0 + at + sidWidth (now (value .entry)) at) (sidNumber (now (value .entry)) at)) none) (now (tape .entry)) (now (tape .exit)) (position .0) r ⌝ }
 {
     let sid = read_sid(value, at);
     let width = sid.width;
@@ -58,6 +59,7 @@ pub fn sid(
         width,
         sid.number,
         tape,
+        slim,
         position,
     );
     Shown {

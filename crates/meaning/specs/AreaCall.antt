@@ -1,5 +1,5 @@
 -- The calls walk and push (document 01, 'Numbers a call gives back'), from registry, area, base and tape.
-use mathlib.Core.Bool.{cond}
+use mathlib.Core.Bool.{Bool, cond}
 use mathlib.Core.List.{List}
 use Prim.Native.Nat.{ℕ, _+_, _-_}
 use lib.Dec.{leb}
@@ -24,37 +24,37 @@ abbrev pub furthest : ℕ
 furthest = 4294967295
 
 -- the tape with the records of trees behind those that it has
-unfoldable pub appended : Forest → List ℕ → List ℕ
-appended trees t = withUsed (used t + size trees) (store t (used t) (flat (used t) trees))
+unfoldable pub appended : Bool → Forest → List ℕ → List ℕ
+appended slim trees t = withUsed (used t + size trees) (store slim t (used t) (flat (used t) trees))
 
 -- done: octets covered, and as many records written as needed
-abbrev pub shown : ℕ → Forest → List ℕ → After
-shown octets trees t =
-    record { outcome = record { answer = 0; covered = octets; written = size trees; needed = size trees }; lent = appended trees t }
+abbrev pub shown : Bool → ℕ → Forest → List ℕ → After
+shown slim octets trees t =
+    record { outcome = record { answer = 0; covered = octets; written = size trees; needed = size trees }; lent = appended slim trees t }
 
 -- 5: needed records exceed free room
-unfoldable pub fitted : ℕ → Forest → List ℕ → After
-fitted octets trees t = cond (leb (size trees) (room t - used t)) (shown octets trees t) (record { outcome = noRoom (size trees); lent = t })
+unfoldable pub fitted : Bool → ℕ → Forest → List ℕ → After
+fitted slim octets trees t = cond (leb (size trees) (room slim t - used t)) (shown slim octets trees t) (record { outcome = noRoom (size trees); lent = t })
 
 -- 1: registry not 0 to 5; 2: area over 65,535 octets; 3: base + area length over 4,294,967,295; 4: the header is not in order; then 5
-unfoldable pub callIn : Walk → Found → List ℕ → ℕ → List ℕ → After
-callIn shows Unknown area base t = refusal 1 t
-callIn shows (Known registry) area base t =
+unfoldable pub callIn : Bool → Walk → Found → List ℕ → ℕ → List ℕ → After
+callIn slim shows Unknown area base t = refusal 1 t
+callIn slim shows (Known registry) area base t =
     cond (leb (length area) longest)
     (cond (leb (base + length area) furthest)
-    (cond (headed t) (fitted (covered area) (shows (numberOf registry) area base) t)
+    (cond (headed slim t) (fitted slim (covered area) (shows (numberOf registry) area base) t)
     (refusal 4 t))
     (refusal 3 t))
     (refusal 2 t)
 
 -- a call that shows an area so
-abbrev pub areaCall : Walk → ℕ → List ℕ → ℕ → List ℕ → After
-areaCall shows registry area base t = callIn shows (registryOf registry) area base t
+abbrev pub areaCall : Bool → Walk → ℕ → List ℕ → ℕ → List ℕ → After
+areaCall slim shows registry area base t = callIn slim shows (registryOf registry) area base t
 
 -- the call walk
-abbrev pub walkCall : ℕ → List ℕ → ℕ → List ℕ → After
-walkCall = areaCall (walked usual)
+abbrev pub walkCall : Bool → ℕ → List ℕ → ℕ → List ℕ → After
+walkCall slim = areaCall slim (walked usual)
 
 -- the call push
-abbrev pub pushCall : ℕ → List ℕ → ℕ → List ℕ → After
-pushCall = areaCall (pushed usual)
+abbrev pub pushCall : Bool → ℕ → List ℕ → ℕ → List ℕ → After
+pushCall slim = areaCall slim (pushed usual)

@@ -1,5 +1,5 @@
--- The dump program (document 01, 'Octets and what they become'): its input, what it answers, and the columns that it prints.
-use mathlib.Core.Bool.{Bool, _&&_, cond}
+-- The dump program (document 01, 'Octets and what they become'; document 02, request 09): its input, what it answers, and the columns that it prints.
+use mathlib.Core.Bool.{Bool, true, _&&_, cond}
 use mathlib.Core.List.{List, [], _∷_}
 use Prim.Native.Nat.{ℕ}
 use lib.Dec.{leb}
@@ -24,15 +24,15 @@ inputArea input = drop 5 input
 
 -- the longest area that it takes
 abbrev pub longestDumped : ℕ
-longestDumped = 512
+longestDumped = 768
 
--- not under 5 octets, and no area over 512
+-- not under 5 octets, and no area over 768
 abbrev pub isTaken : List ℕ → Bool
 isTaken input = leb 5 (length input) && leb (length (inputArea input)) longestDumped
 
--- 10 where the input is not taken, which comes first; otherwise it pushes
+-- 10 where the input is not taken, which comes first; otherwise it pushes, onto a slim tape
 unfoldable pub dumpCall : List ℕ → List ℕ → After
-dumpCall input t = cond (isTaken input) (pushCall (inputRegistry input) (inputArea input) (inputBase input) t) (refusal 10 t)
+dumpCall input t = cond (isTaken input) (pushCall true (inputRegistry input) (inputArea input) (inputBase input) t) (refusal 10 t)
 
 -- the columns: position, label, shape, registry, words 1 to 5
 abbrev pub columns : ℕ → Record → List ℕ

@@ -29,9 +29,15 @@ ghost use Rattle.readings.specs.Reading.{Reads, readingOf, reading};
 ghost use Rattle.readings.specs.Rows.{systemId, endXHead};
 
 // Link local and remote identifiers (RFC 5307, section 1.1).
-fn link_identifiers(value: &[u8], source: Source, tape: &mut [u64], position: Position) -> Decoded
+fn link_identifiers(
+    value: &[u8],
+    source: Source,
+    tape: &mut [u64],
+    slim: bool,
+    position: Position,
+) -> Decoded
     requires { ⌜ (source .base .0 + length (now value) < 2 ^ 32) × (position .0 < 2 ^ 59) ⌝ }
-    ensures { λ r. ⌜ Reads (readingOf (source .registry) (now (value .entry)) (source .base .0) (usual 0 4 (now (value .entry)))) (now (tape .entry)) (now (tape .exit)) (position .0) r ⌝ }
+    ensures { λ r. ⌜ Reads slim (readingOf (source .registry) (now (value .entry)) (source .base .0) (usual 0 4 (now (value .entry)))) (now (tape .entry)) (now (tape .exit)) (position .0) r ⌝ }
 {
     if value.len() < 8 {
         return Decoded {
@@ -39,8 +45,24 @@ fn link_identifiers(value: &[u8], source: Source, tape: &mut [u64], position: Po
             next: position,
         };
     }
-    let second = number32(value, source, Label::LOCAL_IDENTIFIER, 0, tape, position);
-    let next = number32(value, source, Label::REMOTE_IDENTIFIER, 4, tape, second);
+    let second = number32(
+        value,
+        source,
+        Label::LOCAL_IDENTIFIER,
+        0,
+        tape,
+        slim,
+        position,
+    );
+    let next = number32(
+        value,
+        source,
+        Label::REMOTE_IDENTIFIER,
+        4,
+        tape,
+        slim,
+        second,
+    );
     Decoded {
         taken: Taken::Octets(8),
         next,
@@ -52,10 +74,11 @@ fn unreserved_bandwidth(
     value: &[u8],
     source: Source,
     tape: &mut [u64],
+    slim: bool,
     position: Position,
 ) -> Decoded
     requires { ⌜ (source .base .0 + length (now value) < 2 ^ 32) × (position .0 < 2 ^ 59) ⌝ }
-    ensures { λ r. ⌜ Reads (readingOf (source .registry) (now (value .entry)) (source .base .0) (usual 0 11 (now (value .entry)))) (now (tape .entry)) (now (tape .exit)) (position .0) r ⌝ }
+    ensures { λ r. ⌜ Reads slim (readingOf (source .registry) (now (value .entry)) (source .base .0) (usual 0 11 (now (value .entry)))) (now (tape .entry)) (now (tape .exit)) (position .0) r ⌝ }
 {
     if value.len() < 32 {
         return Decoded {
@@ -71,6 +94,7 @@ fn unreserved_bandwidth(
         Shape::U32,
         4,
         tape,
+        slim,
         position,
     );
     let covered = shown.covered;
@@ -82,9 +106,15 @@ fn unreserved_bandwidth(
 }
 
 // LAN-Adj-SID (RFC 8667, section 2.2.2): Flags | Weight | Neighbor System-ID | SID/Label/Index.
-fn lan_adj_sid(value: &[u8], source: Source, tape: &mut [u64], position: Position) -> Decoded
+fn lan_adj_sid(
+    value: &[u8],
+    source: Source,
+    tape: &mut [u64],
+    slim: bool,
+    position: Position,
+) -> Decoded
     requires { ⌜ (source .base .0 + length (now value) < 2 ^ 32) × (position .0 < 2 ^ 59) ⌝ }
-    ensures { λ r. ⌜ Reads (readingOf (source .registry) (now (value .entry)) (source .base .0) (usual 0 32 (now (value .entry)))) (now (tape .entry)) (now (tape .exit)) (position .0) r ⌝ }
+    ensures { λ r. ⌜ Reads slim (readingOf (source .registry) (now (value .entry)) (source .base .0) (usual 0 32 (now (value .entry)))) (now (tape .entry)) (now (tape .exit)) (position .0) r ⌝ }
 {
     if value.len() < 11 {
         return Decoded {
@@ -92,8 +122,8 @@ fn lan_adj_sid(value: &[u8], source: Source, tape: &mut [u64], position: Positio
             next: position,
         };
     }
-    let second = number8(value, source, Label::FLAGS, 0, tape, position);
-    let third = number8(value, source, Label::WEIGHT, 1, tape, second);
+    let second = number8(value, source, Label::FLAGS, 0, tape, slim, position);
+    let third = number8(value, source, Label::WEIGHT, 1, tape, slim, second);
     let fourth = part(
         source,
         Label::NEIGHBOR_SYSTEM_ID,
@@ -102,9 +132,10 @@ fn lan_adj_sid(value: &[u8], source: Source, tape: &mut [u64], position: Positio
         6,
         0,
         tape,
+        slim,
         third,
     );
-    let shown = sid(value, source, Label::SID, 8, tape, fourth);
+    let shown = sid(value, source, Label::SID, 8, tape, slim, fourth);
     let covered = shown.covered;
     let next = shown.next;
     Decoded {
@@ -114,9 +145,15 @@ fn lan_adj_sid(value: &[u8], source: Source, tape: &mut [u64], position: Positio
 }
 
 // Min/max link delay (RFC 8570, section 4.2): A | RESERVED | Min Delay | RESERVED | Max Delay.
-fn min_max_delay(value: &[u8], source: Source, tape: &mut [u64], position: Position) -> Decoded
+fn min_max_delay(
+    value: &[u8],
+    source: Source,
+    tape: &mut [u64],
+    slim: bool,
+    position: Position,
+) -> Decoded
     requires { ⌜ (source .base .0 + length (now value) < 2 ^ 32) × (position .0 < 2 ^ 59) ⌝ }
-    ensures { λ r. ⌜ Reads (readingOf (source .registry) (now (value .entry)) (source .base .0) (usual 0 34 (now (value .entry)))) (now (tape .entry)) (now (tape .exit)) (position .0) r ⌝ }
+    ensures { λ r. ⌜ Reads slim (readingOf (source .registry) (now (value .entry)) (source .base .0) (usual 0 34 (now (value .entry)))) (now (tape .entry)) (now (tape .exit)) (position .0) r ⌝ }
 {
     if value.len() < 8 {
         return Decoded {
@@ -124,9 +161,9 @@ fn min_max_delay(value: &[u8], source: Source, tape: &mut [u64], position: Posit
             next: position,
         };
     }
-    let second = flag(value, source, Label::ANOMALOUS, 0x80, tape, position);
-    let third = number24(value, source, Label::MIN_DELAY, 1, tape, second);
-    let next = number24(value, source, Label::MAX_DELAY, 5, tape, third);
+    let second = flag(value, source, Label::ANOMALOUS, 0x80, tape, slim, position);
+    let third = number24(value, source, Label::MIN_DELAY, 1, tape, slim, second);
+    let next = number24(value, source, Label::MAX_DELAY, 5, tape, slim, third);
     Decoded {
         taken: Taken::Octets(8),
         next,
@@ -139,28 +176,36 @@ pub fn end_x_head(
     source: Source,
     at: usize,
     tape: &mut [u64],
+    slim: bool,
     position: Position,
 ) -> Position
     requires { ⌜ (at + 5 ≤ length (now value)) × (source .base .0 + length (now value) < 2 ^ 32) × (position .0 < 2 ^ 59 + 1) ⌝ }
-    ensures { λ r. ⌜ Laid (endXHead (source .registry) (now (value .entry)) (source .base .0) at) (now (tape .entry)) (now (tape .exit)) (position .0) (r .0) ⌝ }
+    ensures { λ r. ⌜ Laid slim (endXHead (source .registry) (now (value .entry)) (source .base .0) at) (now (tape .entry)) (now (tape .exit)) (position .0) (r .0) ⌝ }
 {
-    let second = number8(value, source, Label::FLAGS, at, tape, position);
-    let third = number8(value, source, Label::ALGORITHM, at + 1, tape, second);
-    let fourth = number8(value, source, Label::WEIGHT, at + 2, tape, third);
+    let second = number8(value, source, Label::FLAGS, at, tape, slim, position);
+    let third = number8(value, source, Label::ALGORITHM, at + 1, tape, slim, second);
+    let fourth = number8(value, source, Label::WEIGHT, at + 2, tape, slim, third);
     number16(
         value,
         source,
         Label::ENDPOINT_BEHAVIOR,
         at + 3,
         tape,
+        slim,
         fourth,
     )
 }
 
 // Lays the neighbor's system id, which stands first on a LAN (RFC 9352, section 8.2), where it has octets.
-pub fn system_id(source: Source, width: usize, tape: &mut [u64], position: Position) -> Position
+pub fn system_id(
+    source: Source,
+    width: usize,
+    tape: &mut [u64],
+    slim: bool,
+    position: Position,
+) -> Position
     requires { ⌜ (source .base .0 + width < 2 ^ 32) × (position .0 < 2 ^ 60) ⌝ }
-    ensures { λ r. ⌜ Laid (systemId width (source .registry) (source .base .0)) (now (tape .entry)) (now (tape .exit)) (position .0) (r .0) ⌝ }
+    ensures { λ r. ⌜ Laid slim (systemId width (source .registry) (source .base .0)) (now (tape .entry)) (now (tape .exit)) (position .0) (r .0) ⌝ }
 {
     if width == 0 {
         return position;
@@ -173,36 +218,51 @@ pub fn system_id(source: Source, width: usize, tape: &mut [u64], position: Posit
         width,
         0,
         tape,
+        slim,
         position,
     )
 }
 
 // A value by its type; type 31 is read with other SIDs, the types 43 and 44 hold an area of their own.
-pub fn neighbor(value: &[u8], kind: u8, base: Octet, tape: &mut [u64], at: Position) -> Decoded
+pub fn neighbor(
+    value: &[u8],
+    kind: u8,
+    base: Octet,
+    tape: &mut [u64],
+    slim: bool,
+    at: Position,
+) -> Decoded
     requires { ⌜ (kind ≡ 31 → ⊥) × (kind ≡ 43 → ⊥) × (kind ≡ 44 → ⊥) × (base .0 + length (now value) < 2 ^ 32) × (at .0 < 2 ^ 59) ⌝ }
-    ensures { λ r. ⌜ Reads (reading 0 kind (now (value .entry)) (base .0)) (now (tape .entry)) (now (tape .exit)) (at .0) r ⌝ }
+    ensures { λ r. ⌜ Reads slim (reading 0 kind (now (value .entry)) (base .0)) (now (tape .entry)) (now (tape .exit)) (at .0) r ⌝ }
 {
     let source = Source {
         registry: Neighbor::NUMBER as u8,
         base,
     };
     match kind {
-        3 => one_number32(value, source, Label::ADMIN_GROUP, tape, at),
-        4 => link_identifiers(value, source, tape, at),
-        6 => ipv4(value, source, Label::IPV4_INTERFACE_ADDRESS, tape, at),
-        8 => ipv4(value, source, Label::IPV4_NEIGHBOR_ADDRESS, tape, at),
-        9 => one_number32(value, source, Label::MAX_BANDWIDTH, tape, at),
-        10 => one_number32(value, source, Label::MAX_RESERVABLE_BANDWIDTH, tape, at),
-        11 => unreserved_bandwidth(value, source, tape, at),
-        12 => ipv6(value, source, Label::IPV6_INTERFACE_ADDRESS, tape, at),
-        13 => ipv6(value, source, Label::IPV6_NEIGHBOR_ADDRESS, tape, at),
-        18 => one_number24(value, source, Label::TE_DEFAULT_METRIC, 0, tape, at),
-        32 => lan_adj_sid(value, source, tape, at),
-        33 => flag_and_number(value, source, Label::DELAY, tape, at),
-        34 => min_max_delay(value, source, tape, at),
-        35 => one_number24(value, source, Label::DELAY_VARIATION, 1, tape, at),
-        36 => flag_and_number(value, source, Label::LINK_LOSS, tape, at),
-        37..=39 => one_number32(value, source, Label::BANDWIDTH, tape, at),
+        3 => one_number32(value, source, Label::ADMIN_GROUP, tape, slim, at),
+        4 => link_identifiers(value, source, tape, slim, at),
+        6 => ipv4(value, source, Label::IPV4_INTERFACE_ADDRESS, tape, slim, at),
+        8 => ipv4(value, source, Label::IPV4_NEIGHBOR_ADDRESS, tape, slim, at),
+        9 => one_number32(value, source, Label::MAX_BANDWIDTH, tape, slim, at),
+        10 => one_number32(
+            value,
+            source,
+            Label::MAX_RESERVABLE_BANDWIDTH,
+            tape,
+            slim,
+            at,
+        ),
+        11 => unreserved_bandwidth(value, source, tape, slim, at),
+        12 => ipv6(value, source, Label::IPV6_INTERFACE_ADDRESS, tape, slim, at),
+        13 => ipv6(value, source, Label::IPV6_NEIGHBOR_ADDRESS, tape, slim, at),
+        18 => one_number24(value, source, Label::TE_DEFAULT_METRIC, 0, tape, slim, at),
+        32 => lan_adj_sid(value, source, tape, slim, at),
+        33 => flag_and_number(value, source, Label::DELAY, tape, slim, at),
+        34 => min_max_delay(value, source, tape, slim, at),
+        35 => one_number24(value, source, Label::DELAY_VARIATION, 1, tape, slim, at),
+        36 => flag_and_number(value, source, Label::LINK_LOSS, tape, slim, at),
+        37..=39 => one_number32(value, source, Label::BANDWIDTH, tape, slim, at),
         _ => Decoded {
             taken: Taken::Nothing,
             next: at,

@@ -1,6 +1,6 @@
 -- What a decoder gives for a value: what it takes, and the trees that it shows.
 use mathlib.Core.Path.{_≡_}
-use mathlib.Core.Bool.{cond}
+use mathlib.Core.Bool.{Bool, cond}
 use mathlib.Core.List.{List, [], _∷_}
 use Prim.Native.Nat.{ℕ}
 use lib.Dec.{leb}
@@ -42,6 +42,6 @@ abbrev pub reading : ℕ → ℕ → List ℕ → ℕ → Reading
 reading registry t v base = readingOf registry v base (usual registry t v)
 
 -- the contract of a decoder: what it took, and what it laid on the tape t from position at on, which made it u
-pub record Reads (x : Reading) (t u : List ℕ) (at : ℕ) (r : Decoded) : Type 0 where
+pub record Reads (slim : Bool) (x : Reading) (t u : List ℕ) (at : ℕ) (r : Decoded) : Type 0 where
   pub taken : r .taken ≡ x .taken
-  pub laid : Laid (x .found) t u at (r .next .0)
+  pub laid : Laid slim (x .found) t u at (r .next .0)

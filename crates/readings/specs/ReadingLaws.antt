@@ -16,11 +16,11 @@ use Rattle.readings.specs.declared.Decoded.{Decoded}
 use Rattle.readings.specs.declared.Taken.the-variants.{Nothing}
 
 -- readings that are equal
-pub reads-as : {x y : Reading} {t u : List ℕ} {at : ℕ} {r : Decoded} → x ≡ y → Reads y t u at r → Reads x t u at r
+pub reads-as : {x y : Reading} {slim : Bool} {t u : List ℕ} {at : ℕ} {r : Decoded} → x ≡ y → Reads slim y t u at r → Reads slim x t u at r
 reads-as e h = rw e h
 
 -- nothing is taken, and nothing is laid
-pub reads-nothing : {t : List ℕ} {at : Position} → Reads nothing t t (at .0) (record { taken = Nothing; next = at })
+pub reads-nothing : {slim : Bool} {t : List ℕ} {at : Position} → Reads slim nothing t t (at .0) (record { taken = Nothing; next = at })
 reads-nothing = record { taken = refl; laid = laid-none }
 
 -- fields that are there under a test
@@ -34,11 +34,11 @@ module _ (registry k r : ℕ) (v : List ℕ) (base : ℕ) (row : OneRow registry
   row-is : readingOf r v base (usual registry k v) ≡ given (leastIn table registry k) v (readingOf r v base (fieldsIn table registry k))
   row-is = ap (readingOf r v base) row ∙ given-fields r v base (leb (leastIn table registry k) (length v)) (fieldsIn table registry k)
 
-  pub row-given : {t u : List ℕ} {at : ℕ} {d : Decoded} → Reads (given (leastIn table registry k) v (readingOf r v base (fieldsIn table registry k))) t u at d → Reads (readingOf r v base (usual registry k v)) t u at d
+  pub row-given : {slim : Bool} {t u : List ℕ} {at : ℕ} {d : Decoded} → Reads slim (given (leastIn table registry k) v (readingOf r v base (fieldsIn table registry k))) t u at d → Reads slim (readingOf r v base (usual registry k v)) t u at d
   row-given h = reads-as row-is h
 
   -- the value is too short
-  pub row-short : {t : List ℕ} {at : Position} → length v < leastIn table registry k → Reads (readingOf r v base (usual registry k v)) t t (at .0) (record { taken = Nothing; next = at })
+  pub row-short : {slim : Bool} {t : List ℕ} {at : Position} → length v < leastIn table registry k → Reads slim (readingOf r v base (usual registry k v)) t t (at .0) (record { taken = Nothing; next = at })
   row-short short = row-given (rw (lt-leb (leastIn table registry k) (length v) short) reads-nothing)
 
   -- the fields of one that is long enough
@@ -46,14 +46,14 @@ module _ (registry k r : ℕ) (v : List ℕ) (base : ℕ) (row : OneRow registry
   row-fields long = row-is ∙ rw (le-leb (leastIn table registry k) (length v) long)
 
   -- it is long enough
-  pub row-long : {t u : List ℕ} {at : ℕ} {d : Decoded} → leastIn table registry k ≤ length v → Reads (readingOf r v base (fieldsIn table registry k)) t u at d → Reads (readingOf r v base (usual registry k v)) t u at d
+  pub row-long : {slim : Bool} {t u : List ℕ} {at : ℕ} {d : Decoded} → leastIn table registry k ≤ length v → Reads slim (readingOf r v base (fieldsIn table registry k)) t u at d → Reads slim (readingOf r v base (usual registry k v)) t u at d
   row-long long h = reads-as (row-fields long) h
 
 -- a value of type k
-pub of-type : (registry k kind : ℕ) (v : List ℕ) (base : ℕ) {t u : List ℕ} {at : ℕ} {d : Decoded} → kind ≡ k → Reads (readingOf registry v base (usual registry k v)) t u at d → Reads (reading registry kind v base) t u at d
+pub of-type : (registry k kind : ℕ) (v : List ℕ) (base : ℕ) {slim : Bool} {t u : List ℕ} {at : ℕ} {d : Decoded} → kind ≡ k → Reads slim (readingOf registry v base (usual registry k v)) t u at d → Reads slim (reading registry kind v base) t u at d
 of-type registry k kind v base is h = reads-as (ap (λ (n : ℕ). reading registry n v base) is) h
 
 -- a type that the table does not list
-pub of-unknown : (registry kind : ℕ) (v : List ℕ) (base : ℕ) {t : List ℕ} {at : Position} → NoneOf kind (typesOf registry table) → Reads (reading registry kind v base) t t (at .0) (record { taken = Nothing; next = at })
+pub of-unknown : (registry kind : ℕ) (v : List ℕ) (base : ℕ) {slim : Bool} {t : List ℕ} {at : Position} → NoneOf kind (typesOf registry table) → Reads slim (reading registry kind v base) t t (at .0) (record { taken = Nothing; next = at })
 unfolding readingOf
 of-unknown registry kind v base none = reads-as (ap (readingOf registry v base) (usual-unknown registry kind v none)) reads-nothing

@@ -48,18 +48,18 @@ module _ (label : Label) (span : Span) (first : startOf span ≡ 0) (r : ℕ) (v
       (each-same (elementTrees (numbers l s w) r) (numberTrees (number l) (shapeNumber s) w r) (λ p at. rw has) ps base)
 
 -- types with an octet between flags and SID
-module _ (v : List ℕ) (base : ℕ) {t u : List ℕ} {at : ℕ} {d : Decoded} where
+module _ (v : List ℕ) (base : ℕ) {slim : Bool} {t u : List ℕ} {at : ℕ} {d : Decoded} where
   -- by the row of the one type that a registry has
-  sid-row : (registry k kind label : ℕ) → (Reads (octetAndSid label registry v base) t u at d → Reads (readingOf registry v base (usual registry k v)) t u at d)
-      → 0 < forType kind k label → Reads (octetAndSid (forType kind k label) registry v base) t u at d → Reads (reading registry kind v base) t u at d
+  sid-row : (registry k kind label : ℕ) → (Reads slim (octetAndSid label registry v base) t u at d → Reads slim (readingOf registry v base (usual registry k v)) t u at d)
+      → 0 < forType kind k label → Reads slim (octetAndSid (forType kind k label) registry v base) t u at d → Reads slim (reading registry kind v base) t u at d
   sid-row registry k kind label row some h = go (eqb kind k) refl
     where
-      go : (is : Bool) → eqb kind k ≡ is → Reads (reading registry kind v base) t u at d
+      go : (is : Bool) → eqb kind k ≡ is → Reads slim (reading registry kind v base) t u at d
       go true e = of-type registry k kind v base (eqb-true kind k e) (row (rw e at h))
       go false e = absurd (omega (arith, rw e at some))
 
   pub sid-type : (registry : Registry) (kind : ℕ) → 0 < octetLabel registry kind
-      → Reads (octetAndSid (octetLabel registry kind) (numberOf registry) v base) t u at d → Reads (reading (numberOf registry) kind v base) t u at d
+      → Reads slim (octetAndSid (octetLabel registry kind) (numberOf registry) v base) t u at d → Reads slim (reading (numberOf registry) kind v base) t u at d
   unfolding usual fieldsOf table leastIn fieldsIn readingOf fieldsTrees fieldTrees taken fieldEnd _⧺_
   sid-type Neighbor kind = sid-row 0 31 kind 17 (row-given 0 31 0 v base refl)
   sid-type Prefix kind = sid-row 1 3 kind 18 (row-given 1 3 1 v base refl)

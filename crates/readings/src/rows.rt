@@ -28,10 +28,11 @@ pub fn one_number24(
     label: u8,
     at: usize,
     tape: &mut [u64],
+    slim: bool,
     position: Position,
 ) -> Decoded
     requires { ⌜ (at ≤ 8) × (source .base .0 + length (now value) < 2 ^ 32) × (position .0 < 2 ^ 59) ⌝ }
-    ensures { λ r. ⌜ Reads (oneNumber label 2 at 3 (source .registry) (now (value .entry)) (source .base .0)) (now (tape .entry)) (now (tape .exit)) (position .0) r ⌝ }
+    ensures { λ r. ⌜ Reads slim (oneNumber label 2 at 3 (source .registry) (now (value .entry)) (source .base .0)) (now (tape .entry)) (now (tape .exit)) (position .0) r ⌝ }
 {
     if value.len() < at + 3 {
         return Decoded {
@@ -39,7 +40,7 @@ pub fn one_number24(
             next: position,
         };
     }
-    let next = number24(value, source, label, at, tape, position);
+    let next = number24(value, source, label, at, tape, slim, position);
     Decoded {
         taken: Taken::Octets(at + 3),
         next,
@@ -52,10 +53,11 @@ pub fn one_number32(
     source: Source,
     label: u8,
     tape: &mut [u64],
+    slim: bool,
     position: Position,
 ) -> Decoded
     requires { ⌜ (source .base .0 + length (now value) < 2 ^ 32) × (position .0 < 2 ^ 59) ⌝ }
-    ensures { λ r. ⌜ Reads (oneNumber label 2 0 4 (source .registry) (now (value .entry)) (source .base .0)) (now (tape .entry)) (now (tape .exit)) (position .0) r ⌝ }
+    ensures { λ r. ⌜ Reads slim (oneNumber label 2 0 4 (source .registry) (now (value .entry)) (source .base .0)) (now (tape .entry)) (now (tape .exit)) (position .0) r ⌝ }
 {
     if value.len() < 4 {
         return Decoded {
@@ -63,7 +65,7 @@ pub fn one_number32(
             next: position,
         };
     }
-    let next = number32(value, source, label, 0, tape, position);
+    let next = number32(value, source, label, 0, tape, slim, position);
     Decoded {
         taken: Taken::Octets(4),
         next,
@@ -78,10 +80,11 @@ fn one_address(
     shape: u8,
     width: usize,
     tape: &mut [u64],
+    slim: bool,
     position: Position,
 ) -> Decoded
     requires { ⌜ (source .base .0 + length (now value) < 2 ^ 32) × (position .0 < 2 ^ 59) ⌝ }
-    ensures { λ r. ⌜ Reads (oneAddress label shape width (source .registry) (now (value .entry)) (source .base .0)) (now (tape .entry)) (now (tape .exit)) (position .0) r ⌝ }
+    ensures { λ r. ⌜ Reads slim (oneAddress label shape width (source .registry) (now (value .entry)) (source .base .0)) (now (tape .entry)) (now (tape .exit)) (position .0) r ⌝ }
 {
     if value.len() < width {
         return Decoded {
@@ -89,7 +92,7 @@ fn one_address(
             next: position,
         };
     }
-    let next = part(source, label, shape, 0, width, 0, tape, position);
+    let next = part(source, label, shape, 0, width, 0, tape, slim, position);
     Decoded {
         taken: Taken::Octets(width),
         next,
@@ -102,12 +105,13 @@ pub fn ipv4(
     source: Source,
     label: u8,
     tape: &mut [u64],
+    slim: bool,
     position: Position,
 ) -> Decoded
     requires { ⌜ (source .base .0 + length (now value) < 2 ^ 32) × (position .0 < 2 ^ 59) ⌝ }
-    ensures { λ r. ⌜ Reads (oneAddress label 4 4 (source .registry) (now (value .entry)) (source .base .0)) (now (tape .entry)) (now (tape .exit)) (position .0) r ⌝ }
+    ensures { λ r. ⌜ Reads slim (oneAddress label 4 4 (source .registry) (now (value .entry)) (source .base .0)) (now (tape .entry)) (now (tape .exit)) (position .0) r ⌝ }
 {
-    one_address(value, source, label, Shape::IPV4, 4, tape, position)
+    one_address(value, source, label, Shape::IPV4, 4, tape, slim, position)
 }
 
 // An IPv6 address.
@@ -116,12 +120,13 @@ pub fn ipv6(
     source: Source,
     label: u8,
     tape: &mut [u64],
+    slim: bool,
     position: Position,
 ) -> Decoded
     requires { ⌜ (source .base .0 + length (now value) < 2 ^ 32) × (position .0 < 2 ^ 59) ⌝ }
-    ensures { λ r. ⌜ Reads (oneAddress label 5 16 (source .registry) (now (value .entry)) (source .base .0)) (now (tape .entry)) (now (tape .exit)) (position .0) r ⌝ }
+    ensures { λ r. ⌜ Reads slim (oneAddress label 5 16 (source .registry) (now (value .entry)) (source .base .0)) (now (tape .entry)) (now (tape .exit)) (position .0) r ⌝ }
 {
-    one_address(value, source, label, Shape::IPV6, 16, tape, position)
+    one_address(value, source, label, Shape::IPV6, 16, tape, slim, position)
 }
 
 // A number for one type, 0 for others.
@@ -155,10 +160,11 @@ pub fn octet_and_sid(
     source: Source,
     label: u8,
     tape: &mut [u64],
+    slim: bool,
     position: Position,
 ) -> Decoded
     requires { ⌜ (source .base .0 + length (now value) < 2 ^ 32) × (position .0 < 2 ^ 59) ⌝ }
-    ensures { λ r. ⌜ Reads (octetAndSid label (source .registry) (now (value .entry)) (source .base .0)) (now (tape .entry)) (now (tape .exit)) (position .0) r ⌝ }
+    ensures { λ r. ⌜ Reads slim (octetAndSid label (source .registry) (now (value .entry)) (source .base .0)) (now (tape .entry)) (now (tape .exit)) (position .0) r ⌝ }
 {
     if value.len() < 5 {
         return Decoded {
@@ -166,9 +172,9 @@ pub fn octet_and_sid(
             next: position,
         };
     }
-    let second = number8(value, source, Label::FLAGS, 0, tape, position);
-    let third = number8(value, source, label, 1, tape, second);
-    let shown = sid(value, source, Label::SID, 2, tape, third);
+    let second = number8(value, source, Label::FLAGS, 0, tape, slim, position);
+    let third = number8(value, source, label, 1, tape, slim, second);
+    let shown = sid(value, source, Label::SID, 2, tape, slim, third);
     let covered = shown.covered;
     let next = shown.next;
     Decoded {
@@ -183,10 +189,11 @@ pub fn flag_and_number(
     source: Source,
     label: u8,
     tape: &mut [u64],
+    slim: bool,
     position: Position,
 ) -> Decoded
     requires { ⌜ (source .base .0 + length (now value) < 2 ^ 32) × (position .0 < 2 ^ 59) ⌝ }
-    ensures { λ r. ⌜ Reads (flagAndNumber label (source .registry) (now (value .entry)) (source .base .0)) (now (tape .entry)) (now (tape .exit)) (position .0) r ⌝ }
+    ensures { λ r. ⌜ Reads slim (flagAndNumber label (source .registry) (now (value .entry)) (source .base .0)) (now (tape .entry)) (now (tape .exit)) (position .0) r ⌝ }
 {
     if value.len() < 4 {
         return Decoded {
@@ -194,8 +201,8 @@ pub fn flag_and_number(
             next: position,
         };
     }
-    let second = flag(value, source, Label::ANOMALOUS, 0x80, tape, position);
-    let next = number24(value, source, label, 1, tape, second);
+    let second = flag(value, source, Label::ANOMALOUS, 0x80, tape, slim, position);
+    let next = number24(value, source, label, 1, tape, slim, second);
     Decoded {
         taken: Taken::Octets(4),
         next,
@@ -212,10 +219,11 @@ pub fn number_array(
     shape: u8,
     width: usize,
     tape: &mut [u64],
+    slim: bool,
     position: Position,
 ) -> Decoded
     requires { ⌜ (isWidth width ≡ true) × (source .base .0 + length (now value) < 2 ^ 32) × (position .0 < 2 ^ 59) ⌝ }
-    ensures { λ r. ⌜ Reads (numberArray least array label shape width (source .registry) (now (value .entry)) (source .base .0)) (now (tape .entry)) (now (tape .exit)) (position .0) r ⌝ }
+    ensures { λ r. ⌜ Reads slim (numberArray least array label shape width (source .registry) (now (value .entry)) (source .base .0)) (now (tape .entry)) (now (tape .exit)) (position .0) r ⌝ }
 {
     if value.len() < least {
         return Decoded {
@@ -223,7 +231,17 @@ pub fn number_array(
             next: position,
         };
     }
-    let shown = numbers(value, source, array, label, shape, width, tape, position);
+    let shown = numbers(
+        value,
+        source,
+        array,
+        label,
+        shape,
+        width,
+        tape,
+        slim,
+        position,
+    );
     let covered = shown.covered;
     let next = shown.next;
     Decoded {

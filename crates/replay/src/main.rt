@@ -27,7 +27,7 @@ fn tag(said: &[u8]) -> u64
 fn same_record(tape: &[u64], at: usize, base: u64, said: &[u8]) -> bool
     requires { ⌜ (base < 4294967296) × (length (now said) ≡ 19) ⌝ }
 {
-    let reading = read(tape, Position(at));
+    let reading = read(tape, false, Position(at));
     let record = reading.record;
     let words = record.words();
     if words[0] != tag(said) {
@@ -92,12 +92,13 @@ fn agrees(head: &[u8]) -> bool
     }
     // Room for the 1 + 7 * 512 / 3 records that 512 octets can need.
     let mut tape = [0u64; 7174];
-    clear(&mut tape);
+    clear(&mut tape, false);
     let outcome = subtlv::push(
         &area[0..length],
         Octet(base as usize),
         octet(head, 0) as u64,
         &mut tape,
+        false,
     );
     let same = same_records(&tape, base, count);
     if outcome.answer != 0 {

@@ -11,27 +11,28 @@ ghost use Rattle.tape.specs.Forest.{leaf, none};
 ghost use Rattle.tape.specs.Laid.{Laid};
 
 // Lays a leaf at position `at`, and gives the position after it.
-pub fn leaf(tape: &mut [u64], at: Position, content: Content) -> Position
+pub fn leaf(tape: &mut [u64], slim: bool, at: Position, content: Content) -> Position
     requires { ⌜ at .0 < 2 ^ 60 ⌝ }
-    ensures { λ r. ⌜ Laid (leaf content none) (now (tape .entry)) (now (tape .exit)) (at .0) (r .0) ⌝ }
+    ensures { λ r. ⌜ Laid slim (leaf content none) (now (tape .entry)) (now (tape .exit)) (at .0) (r .0) ⌝ }
 {
     let p = at.0;
-    put(tape, at, content.leaf());
+    put(tape, slim, at, content.leaf());
     Position(p + 1)
 }
 
 // Lays a container at position `at`, whose children stand behind it, up to position `next`.
-pub fn container(tape: &mut [u64], at: Position, content: Content, next: Position)
+pub fn container(tape: &mut [u64], slim: bool, at: Position, content: Content, next: Position)
     requires { ⌜ at .0 < 2 ^ 60 ⌝ }
-    ensures { λ _. ⌜ now (tape .exit) ≡ putAt (now (tape .entry)) (at .0) (containerRecord content (at .0 + 1) (next .0)) ⌝ }
+    ensures { λ _. ⌜ now (tape .exit) ≡ putAt slim (now (tape .entry)) (at .0) (containerRecord content (at .0 + 1) (next .0)) ⌝ }
 {
     let p = at.0;
-    put(tape, at, content.container(Position(p + 1), next));
+    put(tape, slim, at, content.container(Position(p + 1), next));
 }
 
 // Lays a container at position `at`, and two leaves as its first children; the others stand behind these, up to position `next`.
 pub fn container_of_two(
     tape: &mut [u64],
+    slim: bool,
     at: Position,
     content: Content,
     first: Content,
@@ -39,9 +40,9 @@ pub fn container_of_two(
     next: Position,
 )
     requires { ⌜ at .0 < 2 ^ 60 ⌝ }
-    ensures { λ _. ⌜ now (tape .exit) ≡ putAt (putAt (putAt (now (tape .entry)) (at .0 + 2) (leafRecord second)) (at .0 + 1) (leafRecord first)) (at .0) (containerRecord content (at .0 + 1) (next .0)) ⌝ }
+    ensures { λ _. ⌜ now (tape .exit) ≡ putAt slim (putAt slim (putAt slim (now (tape .entry)) (at .0 + 2) (leafRecord second)) (at .0 + 1) (leafRecord first)) (at .0) (containerRecord content (at .0 + 1) (next .0)) ⌝ }
 {
     let p = at.0;
     let whole = content.container(Position(p + 1), next);
-    put_three(tape, at, whole, first.leaf(), second.leaf());
+    put_three(tape, slim, at, whole, first.leaf(), second.leaf());
 }

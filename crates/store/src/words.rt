@@ -1,26 +1,35 @@
-// The words of records: written where they lie inside the tape, and read.
+// The words of records: written where they lie inside the tape, and read, in the layout asked for.
+use crate::header::width;
 use tape::Octet;
 use tape::Position;
 use tape::Record;
 ghost use mathlib.Core.Path.{_≡_};
-ghost use Prim.Native.Nat.{_+_, _*_, _^_, _<_, _≤_};
-ghost use lib.ListN.{length};
+ghost use mathlib.Core.Bool.{true, false};
+ghost use Prim.Native.Nat.{ℕ, _+_, _*_, _^_, _<_, _≤_};
+ghost use lib.ListN.{length, getD};
 ghost use lib.Seq.{sets};
-ghost use Rattle.tape.specs.Record.{words};
-ghost use Rattle.tape.specs.Tape.{putAt, recordAt};
+ghost use Rattle.tape.specs.Layout.{width, wordOf, pair, wordsOf, recordBy};
+ghost use Rattle.tape.specs.Tape.{room, putAt, recordAt};
 
 // The first word of the record at position `at`.
-fn first_word(at: Position) -> usize
+fn first_word(slim: bool, at: Position) -> usize
     requires { ⌜ at .0 < 2 ^ 61 ⌝ }
-    ensures { λ r. ⌜ r ≡ 4 + 6 * at .0 ⌝ }
+    ensures { λ r. ⌜ (r ≡ wordOf slim (at .0)) × (r ≤ 4 + 6 * at .0) ⌝ }
 {
-    4 + 6 * at.0
+    if slim { 4 + 4 * at.0 } else { 4 + 6 * at.0 }
+}
+
+// Two numbers in a word, low + 4,294,967,296 x high; of a number that has over 32 bits the low 32.
+fn pair(low: usize, high: usize) -> u64
+    ensures { λ r. ⌜ r ≡ pair low high ⌝ }
+{
+    (low % 4294967296 + 4294967296 * (high % 4294967296)) as u64
 }
 
 // Writes the six words of `r` from word `b` on.
-fn write(tape: &mut [u64], b: usize, r: Record)
+fn write_six(tape: &mut [u64], b: usize, r: Record)
     requires { ⌜ b + 6 ≤ length (now tape) ⌝ }
-    ensures { λ _. ⌜ now (tape .exit) ≡ sets (now (tape .entry)) b (words r) ⌝ }
+    ensures { λ _. ⌜ now (tape .exit) ≡ sets (now (tape .entry)) b (wordsOf false r) ⌝ }
 {
     tape[b] = r.tag;
     tape[b + 1] = r.start.0 as u64;
@@ -30,40 +39,72 @@ fn write(tape: &mut [u64], b: usize, r: Record)
     tape[b + 5] = r.past.0 as u64;
 }
 
-// Writes the six words of `r` at position `at`, where they lie inside the tape, and nothing elsewhere.
-pub fn put(tape: &mut [u64], at: Position, r: Record)
-    requires { ⌜ at .0 < 2 ^ 60 + 1 ⌝ }
-    ensures { λ _. ⌜ now (tape .exit) ≡ putAt (now (tape .entry)) (at .0) r ⌝ }
+// Writes the four words of `r` from word `b` on.
+fn write_four(tape: &mut [u64], b: usize, r: Record)
+    requires { ⌜ b + 4 ≤ length (now tape) ⌝ }
+    ensures { λ _. ⌜ now (tape .exit) ≡ sets (now (tape .entry)) b (wordsOf true r) ⌝ }
 {
-    let b = first_word(at);
-    if b + 6 <= tape.len() {
-        write(tape, b, r);
+    let octets = pair(r.start.0, r.end.0);
+    let children = pair(r.first.0, r.past.0);
+    tape[b] = r.tag;
+    tape[b + 1] = octets;
+    tape[b + 2] = r.number;
+    tape[b + 3] = children;
+}
+
+// Writes the words of `r` from word `b` on.
+fn write(tape: &mut [u64], slim: bool, b: usize, r: Record)
+    requires { ⌜ b + width slim ≤ length (now tape) ⌝ }
+    ensures { λ _. ⌜ now (tape .exit) ≡ sets (now (tape .entry)) b (wordsOf slim r) ⌝ }
+{
+    if slim {
+        write_four(tape, b, r);
+    } else {
+        write_six(tape, b, r);
+    }
+}
+
+// Writes the words of `r` at position `at`, where they lie inside the tape, and nothing elsewhere.
+pub fn put(tape: &mut [u64], slim: bool, at: Position, r: Record)
+    requires { ⌜ at .0 < 2 ^ 60 + 1 ⌝ }
+    ensures { λ _. ⌜ now (tape .exit) ≡ putAt slim (now (tape .entry)) (at .0) r ⌝ }
+{
+    let b = first_word(slim, at);
+    if b + width(slim) <= tape.len() {
+        write(tape, slim, b, r);
     }
 }
 
 // Writes three records from position `at` on, each where its words lie inside the tape.
-pub fn put_three(tape: &mut [u64], at: Position, first: Record, second: Record, third: Record)
+pub fn put_three(
+    tape: &mut [u64],
+    slim: bool,
+    at: Position,
+    first: Record,
+    second: Record,
+    third: Record,
+)
     requires { ⌜ at .0 < 2 ^ 60 ⌝ }
-    ensures { λ _. ⌜ now (tape .exit) ≡ putAt (putAt (putAt (now (tape .entry)) (at .0 + 2) third) (at .0 + 1) second) (at .0) first ⌝ }
+    ensures { λ _. ⌜ now (tape .exit) ≡ putAt slim (putAt slim (putAt slim (now (tape .entry)) (at .0 + 2) third) (at .0 + 1) second) (at .0) first ⌝ }
 {
     let p = at.0;
-    let b = first_word(at);
-    if b + 18 <= tape.len() {
-        write(tape, b + 12, third);
-        write(tape, b + 6, second);
-        write(tape, b, first);
+    let b = first_word(slim, at);
+    let w = width(slim);
+    if b + 3 * w <= tape.len() {
+        write(tape, slim, b + 2 * w, third);
+        write(tape, slim, b + w, second);
+        write(tape, slim, b, first);
     } else {
-        put(tape, Position(p + 1), second);
-        put(tape, at, first);
+        put(tape, slim, Position(p + 1), second);
+        put(tape, slim, at, first);
     }
 }
 
-// The record at position `at`.
-pub fn get(tape: &[u64], at: Position) -> Record
-    requires { ⌜ 4 + 6 * at .0 + 6 ≤ length (now tape) ⌝ }
-    ensures { λ r. ⌜ r ≡ recordAt (now (tape .entry)) (at .0) ⌝ }
+// The record in the six words from word `b` on.
+fn read_six(tape: &[u64], b: usize) -> Record
+    requires { ⌜ b + 6 ≤ length (now tape) ⌝ }
+    ensures { λ r. ⌜ r ≡ recordBy false (λ (k : ℕ). getD (now (tape .entry)) (b + k) 0) ⌝ }
 {
-    let b = first_word(at);
     Record {
         tag: tape[b],
         start: Octet(tape[b + 1] as usize),
@@ -72,4 +113,41 @@ pub fn get(tape: &[u64], at: Position) -> Record
         first: Position(tape[b + 4] as usize),
         past: Position(tape[b + 5] as usize),
     }
+}
+
+// The record in the four words from word `b` on.
+fn read_four(tape: &[u64], b: usize) -> Record
+    requires { ⌜ b + 4 ≤ length (now tape) ⌝ }
+    ensures { λ r. ⌜ r ≡ recordBy true (λ (k : ℕ). getD (now (tape .entry)) (b + k) 0) ⌝ }
+{
+    let octets = tape[b + 1] as usize;
+    let children = tape[b + 3] as usize;
+    Record {
+        tag: tape[b],
+        start: Octet(octets % 4294967296),
+        end: Octet(octets / 4294967296),
+        number: tape[b + 2],
+        first: Position(children % 4294967296),
+        past: Position(children / 4294967296),
+    }
+}
+
+// The record in the words from word `b` on.
+fn read(tape: &[u64], slim: bool, b: usize) -> Record
+    requires { ⌜ b + width slim ≤ length (now tape) ⌝ }
+    ensures { λ r. ⌜ r ≡ recordBy slim (λ (k : ℕ). getD (now (tape .entry)) (b + k) 0) ⌝ }
+{
+    if slim {
+        return read_four(tape, b);
+    }
+    read_six(tape, b)
+}
+
+// The record at position `at`.
+pub fn get(tape: &[u64], slim: bool, at: Position) -> Record
+    requires { ⌜ at .0 < room slim (now tape) ⌝ }
+    ensures { λ r. ⌜ r ≡ recordAt slim (now (tape .entry)) (at .0) ⌝ }
+{
+    let b = first_word(slim, at);
+    read(tape, slim, b)
 }

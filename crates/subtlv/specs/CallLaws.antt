@@ -1,4 +1,5 @@
 -- Room for a call, and what it leaves.
+use mathlib.Core.Bool.{Bool}
 use mathlib.Core.Path.{_≡_, _∙_}
 use mathlib.Core.List.{List}
 use Prim.Native.Nat.{ℕ, _+_, _*_, _-_, _/_, _^_, _≤_, _<_}
@@ -35,10 +36,10 @@ most Walk = needed-walked usual usual-sparing
 most Push = needed-pushed usual usual-sparing
 
 -- what was laid behind the used records, and is counted now
-pub appended-made : (octets : ℕ) (trees : Forest) (t : List ℕ) {u w : List ℕ} {at n : ℕ} {s : Shown} → at ≡ used t → n ≡ s .next .0 - at → Shows octets trees t u at s → w ≡ withUsed (s .next .0) u
-    → Gives (shown octets trees t) (record { answer = 0; covered = s .covered; written = n; needed = n }) w
+pub appended-made : (slim : Bool) (octets : ℕ) (trees : Forest) (t : List ℕ) {u w : List ℕ} {at n : ℕ} {s : Shown} → at ≡ used t → n ≡ s .next .0 - at → Shows slim octets trees t u at s → w ≡ withUsed (s .next .0) u
+    → Gives (shown slim octets trees t) (record { answer = 0; covered = s .covered; written = n; needed = n }) w
 unfolding appended
-appended-made octets trees t {u} {w} {at} {n} {s} behind counted shows left =
+appended-made slim octets trees t {u} {w} {at} {n} {s} behind counted shows left =
     let x = rw behind at shows in
     let k : n ≡ size trees = omega (arith, counted, shows .laid .place) in
     record { gave = rw (k, x .covers); left = left ∙ rw (x .laid .place, x .laid .words) }

@@ -1,12 +1,16 @@
 pub mod Both
 pub mod Record
 pub mod RecordLaws
+pub mod Layout
+pub mod LayoutLaws
 pub mod Tape
 pub mod TapeLaws
 pub mod HeaderLaws
 pub mod LoadLaws
 pub mod Forest
 pub mod ForestLaws
+pub mod Near
+pub mod NearLaws
 pub mod Laid
 pub mod LaidLaws
 pub mod Laying

@@ -3,7 +3,7 @@ use mathlib.Core.Path.{_≡_, refl, sym, ap, _∙_}
 use mathlib.Core.Logic.{_⊎_, inl, inr, ⊎-elim}
 use mathlib.Core.Bool.{Bool, true, false, cond}
 use mathlib.Core.List.{List, [], _∷_, _++_}
-use Prim.Native.Nat.{ℕ, suc, _+_, _*_, _≤_, _<_}
+use Prim.Native.Nat.{ℕ, suc, _+_, _≤_, _<_}
 use native.Mathlib.Nat.{add-zero}
 use native.Mathlib.Omega.{arith}
 use native.Mathlib.Numerals.{towards-suc, add-one}
@@ -11,55 +11,21 @@ use borrow.Author.Tests.{le-leb, lt-leb}
 use lib.ListN.{length, getD, set}
 use lib.Seq.{sets, length-sets, set-comm, getD-set-other}
 use lib.Dec.{leb}
-use Rattle.tape.specs.Record.{words}
+use Rattle.tape.specs.Layout.{width, wordOf, wordsOf}
+use Rattle.tape.specs.LayoutLaws.{length-wordsOf, word-before, word-mono}
 use Rattle.tape.specs.Tape.{putAt, store}
 use Rattle.tape.specs.declared.Record.{Record}
 
--- putAt
+-- words set one by one
 
-cond-length : (b : Bool) (x y : List ℕ) → length x ≡ length y → length (cond b x y) ≡ length y
-cond-length true x y e = e
-cond-length false x y e = refl
-
--- the length is kept
-pub length-putAt : (t : List ℕ) (at : ℕ) (r : Record) → length (putAt t at r) ≡ length t
-unfolding putAt
-length-putAt t at r = cond-length (leb (4 + 6 * at + 6) (length t)) _ t (length-sets t (4 + 6 * at) (words r))
-
--- six words written one by one
 pub six-set : (t : List ℕ) (b : ℕ) (r : Record)
-    → set (set (set (set (set (set t b (r .tag)) (b + 1) (r .start .0)) (b + 2) (r .end .0)) (b + 3) (r .number)) (b + 4) (r .first .0)) (b + 5) (r .past .0) ≡ sets t b (words r)
+    → set (set (set (set (set (set t b (r .tag)) (b + 1) (r .start .0)) (b + 2) (r .end .0)) (b + 3) (r .number)) (b + 4) (r .first .0)) (b + 5) (r .past .0) ≡ sets t b (wordsOf false r)
 six-set t b r = simp towards-suc
 
--- six words written, inside the tape
-pub put-inside : (t : List ℕ) (at b : ℕ) (r : Record) → b ≡ 4 + 6 * at → b + 6 ≤ length t → sets t b (words r) ≡ putAt t at r
-unfolding putAt
-put-inside t at b r is inside = rw is (rw (le-leb (4 + 6 * at + 6) (length t) (omega (arith, is))) refl)
+pub four-set : (t : List ℕ) (b w x y z : ℕ) → set (set (set (set t b w) (b + 1) x) (b + 2) y) (b + 3) z ≡ sets t b (w ∷ x ∷ y ∷ z ∷ [])
+four-set t b w x y z = simp towards-suc
 
--- nothing written, outside the tape
-pub put-outside : (t : List ℕ) (at : ℕ) (r : Record) → length t < 4 + 6 * at + 6 → t ≡ putAt t at r
-unfolding putAt
-put-outside t at r outside = simp (lt-leb _ _ outside)
-
--- three records, of which the last is written first
-module _ (t : List ℕ) (at : ℕ) (first second third : Record) where
-  -- inside the tape, from word b on
-  pub three-inside : {u v w : List ℕ} {b : ℕ} → b ≡ 4 + 6 * at → b + 18 ≤ length t → u ≡ sets t (b + 12) (words third) → v ≡ sets u (b + 6) (words second) → w ≡ sets v b (words first)
-      → w ≡ putAt (putAt (putAt t (at + 2) third) (at + 1) second) at first
-  three-inside {u} {v} {b = b} is inside x y z =
-      let lu : length u ≡ length t = ap length x ∙ length-sets t (b + 12) (words third) in
-      let lv : length v ≡ length t = ap length y ∙ length-sets u (b + 6) (words second) ∙ lu in
-      z
-      ∙ put-inside v at b first is (omega (arith, lv))
-      ∙ ap (λ (l : List ℕ). putAt l at first) (y
-      ∙ put-inside u (at + 1) (b + 6) second (omega (arith, is)) (omega (arith, lu))
-      ∙ ap (λ (l : List ℕ). putAt l (at + 1) second) (x ∙ put-inside t (at + 2) (b + 12) third (omega (arith, is)) (omega arith)))
-
-  -- the last one outside of it
-  pub three-outside : {u v : List ℕ} → length t < 4 + 6 * at + 18 → u ≡ putAt t (at + 1) second → v ≡ putAt u at first → v ≡ putAt (putAt (putAt t (at + 2) third) (at + 1) second) at first
-  three-outside outside a b = b ∙ ap (λ (l : List ℕ). putAt l at first) (a ∙ ap (λ (l : List ℕ). putAt l (at + 1) second) (put-outside t (at + 2) third (omega arith)))
-
--- puts at two positions commute
+-- sets
 
 set-sets : (vs l : List ℕ) (i j a : ℕ) → j < i → sets (set l j a) i vs ≡ set (sets l i vs) j a
 set-sets [] l i j a before = refl
@@ -68,6 +34,18 @@ set-sets (v ∷ vs) l i j a before = ap (λ (k : List ℕ). sets k (suc i) vs) (
 sets-sets : (us vs l : List ℕ) (i j : ℕ) → j + length us ≤ i → sets (sets l j us) i vs ≡ sets (sets l i vs) j us
 sets-sets [] vs l i j before = refl
 sets-sets (u ∷ us) vs l i j before = sets-sets us vs (set l j u) i (suc j) (omega arith) ∙ ap (λ (k : List ℕ). sets k (suc j) us) (set-sets vs l i j u (omega arith))
+
+pub getD-sets : (vs l : List ℕ) (i k : ℕ) → (k < i) ⊎ (i + length vs ≤ k) → getD (sets l i vs) k 0 ≡ getD l k 0
+getD-sets [] l i k outside = refl
+getD-sets (v ∷ vs) l i k outside =
+    getD-sets vs (set l i v) (suc i) k (⊎-elim (λ before. inl (omega arith)) (λ after. inr (omega arith)) outside)
+    ∙ getD-set-other l i k v 0 (⊎-elim (λ before. omega arith) (λ after. omega arith) outside)
+
+-- cond
+
+cond-length : (b : Bool) (x y : List ℕ) → length x ≡ length y → length (cond b x y) ≡ length y
+cond-length true x y e = e
+cond-length false x y e = refl
 
 cond-cond : (a b : Bool) (x y z t : List ℕ) → cond a (cond b x y) (cond b z t) ≡ cond b (cond a x z) (cond a y t)
 cond-cond true true x y z t = refl
@@ -79,61 +57,98 @@ sets-cond : (b : Bool) (x y : List ℕ) (i : ℕ) (vs : List ℕ) → sets (cond
 sets-cond true x y i vs = refl
 sets-cond false x y i vs = refl
 
-put-put : (t : List ℕ) (i j : ℕ) (a b : Record) → i < j → putAt (putAt t i a) j b ≡ putAt (putAt t j b) i a
-unfolding putAt
-put-put t i j a b before =
-    let p : Bool = leb (4 + 6 * i + 6) (length t) in
-    let q : Bool = leb (4 + 6 * j + 6) (length t) in
-    rw (cond-length p (sets t (4 + 6 * i) (words a)) t (length-sets t (4 + 6 * i) (words a)), cond-length q (sets t (4 + 6 * j) (words b)) t (length-sets t (4 + 6 * j) (words b)))
-    (rw (sets-cond p (sets t (4 + 6 * i) (words a)) t (4 + 6 * j) (words b), sets-cond q (sets t (4 + 6 * j) (words b)) t (4 + 6 * i) (words a), sets-sets (words a) (words b) t (4 + 6 * j) (4 + 6 * i) (omega arith))
-    (cond-cond q p _ _ _ _))
-
--- store
-
--- the length is kept
-pub length-store : (rs : List Record) (t : List ℕ) (at : ℕ) → length (store t at rs) ≡ length t
-unfolding store
-length-store [] t at = refl
-length-store (r ∷ rs) t at = length-store rs (putAt t at r) (suc at) ∙ length-putAt t at r
-
--- some records and then others
-pub store-append : (xs ys : List Record) (t : List ℕ) (at : ℕ) → store t at (xs ++ ys) ≡ store (store t at xs) (at + length xs) ys
-unfolding store
-store-append [] ys t at = rw add-zero
-store-append (x ∷ xs) ys t at = store-append xs ys (putAt t at x) (suc at) ∙ ap (λ (n : ℕ). store (store (putAt t at x) (suc at) xs) n ys) (omega arith)
-
--- a record put before others or after them is the same
-put-store : (rs : List Record) (t : List ℕ) (i at : ℕ) (r : Record) → i < at → store (putAt t i r) at rs ≡ putAt (store t at rs) i r
-unfolding store
-put-store [] t i at r before = refl
-put-store (x ∷ rs) t i at r before = ap (λ (l : List ℕ). store l (suc at) rs) (put-put t i at r x before) ∙ put-store rs (putAt t at x) i (suc at) r (omega arith)
-
--- children from at + 1 on, and then their container at at
-pub container-last : (t : List ℕ) (at : ℕ) (r : Record) (rs : List Record) → putAt (store t (at + 1) rs) at r ≡ store t at (r ∷ rs)
-unfolding store
-container-last t at r rs = rw (add-one at) (sym (put-store rs t at (suc at) r (omega arith)))
-
--- every other word stays
-
-pub getD-sets : (vs l : List ℕ) (i k : ℕ) → (k < i) ⊎ (i + length vs ≤ k) → getD (sets l i vs) k 0 ≡ getD l k 0
-getD-sets [] l i k outside = refl
-getD-sets (v ∷ vs) l i k outside =
-    getD-sets vs (set l i v) (suc i) k (⊎-elim (λ before. inl (omega arith)) (λ after. inr (omega arith)) outside)
-    ∙ getD-set-other l i k v 0 (⊎-elim (λ before. omega arith) (λ after. omega arith) outside)
-
 getD-cond : (b : Bool) (x y : List ℕ) (k : ℕ) → getD x k 0 ≡ getD y k 0 → getD (cond b x y) k 0 ≡ getD y k 0
 getD-cond true x y k e = e
 getD-cond false x y k e = refl
 
--- a word outside a record that was put
-getD-putAt : (t : List ℕ) (at : ℕ) (r : Record) (k : ℕ) → (k < 4 + 6 * at) ⊎ (4 + 6 * at + 6 ≤ k) → getD (putAt t at r) k 0 ≡ getD t k 0
-unfolding putAt
-getD-putAt t at r k outside = getD-cond (leb (4 + 6 * at + 6) (length t)) _ t k (getD-sets (words r) t (4 + 6 * at) k outside)
+module _ (slim : Bool) where
+  -- putAt
 
--- a word outside the records that were stored
-pub getD-store : (rs : List Record) (t : List ℕ) (at k : ℕ) → (k < 4 + 6 * at) ⊎ (4 + 6 * (at + length rs) ≤ k) → getD (store t at rs) k 0 ≡ getD t k 0
-unfolding store
-getD-store [] t at k outside = refl
-getD-store (r ∷ rs) t at k outside =
-    getD-store rs (putAt t at r) (suc at) k (⊎-elim (λ before. inl (omega arith)) (λ after. inr (omega arith)) outside)
-    ∙ getD-putAt t at r k (⊎-elim (λ before. inl (omega arith)) (λ after. inr (omega arith)) outside)
+  -- the length is kept
+  pub length-putAt : (t : List ℕ) (at : ℕ) (r : Record) → length (putAt slim t at r) ≡ length t
+  unfolding putAt
+  length-putAt t at r = cond-length (leb (wordOf slim at + width slim) (length t)) _ t (length-sets t (wordOf slim at) (wordsOf slim r))
+
+  -- a record written inside the tape
+  pub put-inside : (t : List ℕ) (at b : ℕ) (r : Record) → b ≡ wordOf slim at → b + width slim ≤ length t → sets t b (wordsOf slim r) ≡ putAt slim t at r
+  unfolding putAt
+  put-inside t at b r is inside = rw is (rw (le-leb (wordOf slim at + width slim) (length t) (omega (arith, is))) refl)
+
+  -- nothing written, outside the tape
+  pub put-outside : (t : List ℕ) (at : ℕ) (r : Record) → length t < wordOf slim at + width slim → t ≡ putAt slim t at r
+  unfolding putAt
+  put-outside t at r outside = simp (lt-leb _ _ outside)
+
+  -- three records, of which the last is written first
+  module _ (t : List ℕ) (at : ℕ) (first second third : Record) where
+    -- inside the tape, each from its word on
+    pub three-inside : {u v w : List ℕ} {a b c : ℕ} → a ≡ wordOf slim at → b ≡ wordOf slim (at + 1) → c ≡ wordOf slim (at + 2) → c + width slim ≤ length t
+        → u ≡ sets t c (wordsOf slim third) → v ≡ sets u b (wordsOf slim second) → w ≡ sets v a (wordsOf slim first)
+        → w ≡ putAt slim (putAt slim (putAt slim t (at + 2) third) (at + 1) second) at first
+    three-inside {u} {v} {a = a} {b} {c} is is′ is″ inside x y z =
+        let lu : length u ≡ length t = ap length x ∙ length-sets t c (wordsOf slim third) in
+        let lv : length v ≡ length t = ap length y ∙ length-sets u b (wordsOf slim second) ∙ lu in
+        let ab : a ≤ b = rw (is, is′) (word-mono slim at (at + 1) (omega arith)) in
+        let bc : b ≤ c = rw (is′, is″) (word-mono slim (at + 1) (at + 2) (omega arith)) in
+        z
+        ∙ put-inside v at a first is (omega (arith, lv))
+        ∙ ap (λ (k : List ℕ). putAt slim k at first) (y
+        ∙ put-inside u (at + 1) b second is′ (omega (arith, lu))
+        ∙ ap (λ (k : List ℕ). putAt slim k (at + 1) second) (x ∙ put-inside t (at + 2) c third is″ inside))
+
+    -- the last one outside of it
+    pub three-outside : {u v : List ℕ} → length t < wordOf slim (at + 2) + width slim → u ≡ putAt slim t (at + 1) second → v ≡ putAt slim u at first
+        → v ≡ putAt slim (putAt slim (putAt slim t (at + 2) third) (at + 1) second) at first
+    three-outside outside a b = b ∙ ap (λ (k : List ℕ). putAt slim k at first) (a ∙ ap (λ (k : List ℕ). putAt slim k (at + 1) second) (put-outside t (at + 2) third outside))
+
+  -- puts at two positions commute
+  put-put : (t : List ℕ) (i j : ℕ) (a b : Record) → i < j → putAt slim (putAt slim t i a) j b ≡ putAt slim (putAt slim t j b) i a
+  unfolding putAt
+  put-put t i j a b before =
+      let p : Bool = leb (wordOf slim i + width slim) (length t) in
+      let q : Bool = leb (wordOf slim j + width slim) (length t) in
+      rw (cond-length p (sets t (wordOf slim i) (wordsOf slim a)) t (length-sets t (wordOf slim i) (wordsOf slim a)), cond-length q (sets t (wordOf slim j) (wordsOf slim b)) t (length-sets t (wordOf slim j) (wordsOf slim b)))
+      (rw (sets-cond p (sets t (wordOf slim i) (wordsOf slim a)) t (wordOf slim j) (wordsOf slim b), sets-cond q (sets t (wordOf slim j) (wordsOf slim b)) t (wordOf slim i) (wordsOf slim a), sets-sets (wordsOf slim a) (wordsOf slim b) t (wordOf slim j) (wordOf slim i) (omega (arith, length-wordsOf slim a, word-before slim i j before)))
+      (cond-cond q p _ _ _ _))
+
+  -- a word outside a record that was put
+  getD-putAt : (t : List ℕ) (at : ℕ) (r : Record) (k : ℕ) → (k < wordOf slim at) ⊎ (wordOf slim at + width slim ≤ k) → getD (putAt slim t at r) k 0 ≡ getD t k 0
+  unfolding putAt
+  getD-putAt t at r k outside =
+      getD-cond (leb (wordOf slim at + width slim) (length t)) _ t k (getD-sets (wordsOf slim r) t (wordOf slim at) k (⊎-elim inl (λ after. inr (omega (arith, length-wordsOf slim r))) outside))
+
+  -- store
+
+  -- the length is kept
+  pub length-store : (rs : List Record) (t : List ℕ) (at : ℕ) → length (store slim t at rs) ≡ length t
+  unfolding store
+  length-store [] t at = refl
+  length-store (r ∷ rs) t at = length-store rs (putAt slim t at r) (suc at) ∙ length-putAt t at r
+
+  -- some records and then others
+  pub store-append : (xs ys : List Record) (t : List ℕ) (at : ℕ) → store slim t at (xs ++ ys) ≡ store slim (store slim t at xs) (at + length xs) ys
+  unfolding store
+  store-append [] ys t at = rw add-zero
+  store-append (x ∷ xs) ys t at = store-append xs ys (putAt slim t at x) (suc at) ∙ ap (λ (n : ℕ). store slim (store slim (putAt slim t at x) (suc at) xs) n ys) (omega arith)
+
+  -- a record put before others or after them is the same
+  put-store : (rs : List Record) (t : List ℕ) (i at : ℕ) (r : Record) → i < at → store slim (putAt slim t i r) at rs ≡ putAt slim (store slim t at rs) i r
+  unfolding store
+  put-store [] t i at r before = refl
+  put-store (x ∷ rs) t i at r before = ap (λ (k : List ℕ). store slim k (suc at) rs) (put-put t i at r x before) ∙ put-store rs (putAt slim t at x) i (suc at) r (omega arith)
+
+  -- children from at + 1 on, and then their container at at
+  pub container-last : (t : List ℕ) (at : ℕ) (r : Record) (rs : List Record) → putAt slim (store slim t (at + 1) rs) at r ≡ store slim t at (r ∷ rs)
+  unfolding store
+  container-last t at r rs = rw (add-one at) (sym (put-store rs t at (suc at) r (omega arith)))
+
+  -- a word outside the records that were stored
+  pub getD-store : (rs : List Record) (t : List ℕ) (at k : ℕ) → (k < wordOf slim at) ⊎ (wordOf slim (at + length rs) ≤ k) → getD (store slim t at rs) k 0 ≡ getD t k 0
+  unfolding store
+  getD-store [] t at k outside = refl
+  getD-store (r ∷ rs) t at k outside =
+      let next : wordOf slim at + width slim ≤ wordOf slim (suc at) = word-before slim at (suc at) (omega arith) in
+      let last : wordOf slim (suc at) ≤ wordOf slim (at + length (r ∷ rs)) = word-mono slim (suc at) (at + length (r ∷ rs)) (omega arith) in
+      let same : wordOf slim (suc at + length rs) ≡ wordOf slim (at + length (r ∷ rs)) = ap (wordOf slim) (omega arith) in
+      getD-store rs (putAt slim t at r) (suc at) k (⊎-elim (λ before. inl (omega arith)) (λ after. inr (omega (arith, same))) outside)
+      ∙ getD-putAt t at r k (⊎-elim (λ before. inl (omega arith)) (λ after. inr (omega arith)) outside)

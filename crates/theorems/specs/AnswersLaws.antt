@@ -19,6 +19,7 @@ use Rattle.registry.specs.NameCall.{nameWritten, named, nameIn, nameCall}
 use Rattle.registry.specs.declared.Registry.{Registry}
 use Rattle.registry.specs.declared.Found.the-variants.{Known, Unknown}
 use Rattle.tape.specs.Record.{labelOf, shapeOf, zeros}
+use Rattle.tape.specs.Layout.{width, roomOf}
 use Rattle.tape.specs.Tape.{used, room, headed, withUsed, recordAt, load}
 use Rattle.tape.specs.Forest.{Forest, size}
 use Rattle.tape.specs.declared.Record.{Record}
@@ -38,13 +39,13 @@ use Rattle.meaning.specs.Dump.{inputRegistry, inputBase, inputArea, longestDump
 -- the tests of the definitions fail where the lines hold
 
 -- 4
-fails-headed : (t : List ℕ) → Fails (headed t) (noTape t .when)
+fails-headed : (slim : Bool) (t : List ℕ) → Fails (headed slim t) (noTape slim t .when)
 unfolding headed
-fails-headed t =
+fails-headed slim t =
     fails-and (leb 4 (length t)) _ (fails-leb 4 (length t))
     (fails-and (eqb (getD t 1 0) 4) _ (fails-eqb (getD t 1 0) 4)
-    (fails-and (eqb (getD t 2 0) 6) _ (fails-eqb (getD t 2 0) 6)
-    (fails-and (eqb (getD t 3 0) 0) _ (fails-eqb (getD t 3 0) 0) (fails-leb (used t) (room t)))))
+    (fails-and (eqb (getD t 2 0) (width slim)) _ (fails-eqb (getD t 2 0) (width slim))
+    (fails-and (eqb (getD t 3 0) 0) _ (fails-eqb (getD t 3 0) 0) (fails-leb (used t) (roomOf slim (length t))))))
 
 -- 8
 fails-readable : (r : Record) → Fails (readable r) (unreadable r .when)
@@ -57,12 +58,12 @@ fails-readable r =
 
 -- clear
 
-module _ (t : List ℕ) where
-  clear-lines : Answered (clearLines t) t (clearCall t)
+module _ (slim : Bool) (t : List ℕ) where
+  clear-lines : Answered (clearLines t) t (clearCall slim t)
   unfolding clearCall
-  clear-lines = answered-check (noHeader t) [] (leb 4 (length t)) t (finished (cleared t)) (fails-leb 4 (length t)) (answered-done t (finished (cleared t)) refl)
+  clear-lines = answered-check (noHeader t) [] (leb 4 (length t)) t (finished (cleared slim t)) (fails-leb 4 (length t)) (answered-done t (finished (cleared slim t)) refl)
 
-  pub clear-answered : (o : Outcome) (x : List ℕ) → Gives (clearCall t) o x → Answered (clearLines t) t (record { outcome = o; lent = x })
+  pub clear-answered : (o : Outcome) (x : List ℕ) → Gives (clearCall slim t) o x → Answered (clearLines t) t (record { outcome = o; lent = x })
   clear-answered o x ran = answered-run (clearLines t) t o x ran clear-lines
 
   pub clear-distinct : Distinct (clearLines t)
@@ -71,56 +72,56 @@ module _ (t : List ℕ) where
 
 -- cut back
 
-module _ (t : List ℕ) (mark : ℕ) where
-  cut-back-lines : Answered (cutBackLines t mark) t (cutBackCall t mark)
+module _ (slim : Bool) (t : List ℕ) (mark : ℕ) where
+  cut-back-lines : Answered (cutBackLines slim t mark) t (cutBackCall slim t mark)
   unfolding cutBackCall
   cut-back-lines =
-      answered-check (noTape t) _ (headed t) t _ (fails-headed t)
+      answered-check (noTape slim t) _ (headed slim t) t _ (fails-headed slim t)
       (answered-check (markPast mark t) _ (leb mark (used t)) t _ (fails-leb mark (used t))
-      (answered-check (cutsThrough mark t) [] (endBy mark (load t 0 mark)) t (finished (withUsed mark t)) (fails-cut t mark) (answered-done t (finished (withUsed mark t)) refl)))
+      (answered-check (cutsThrough slim mark t) [] (endBy mark (load slim t 0 mark)) t (finished (withUsed mark t)) (fails-cut slim t mark) (answered-done t (finished (withUsed mark t)) refl)))
 
-  pub cut-back-answered : (o : Outcome) (x : List ℕ) → Gives (cutBackCall t mark) o x → Answered (cutBackLines t mark) t (record { outcome = o; lent = x })
-  cut-back-answered o x ran = answered-run (cutBackLines t mark) t o x ran cut-back-lines
+  pub cut-back-answered : (o : Outcome) (x : List ℕ) → Gives (cutBackCall slim t mark) o x → Answered (cutBackLines slim t mark) t (record { outcome = o; lent = x })
+  cut-back-answered o x ran = answered-run (cutBackLines slim t mark) t o x ran cut-back-lines
 
-  pub cut-back-distinct : Distinct (cutBackLines t mark)
+  pub cut-back-distinct : Distinct (cutBackLines slim t mark)
   unfolding isOneOf areDistinct
   cut-back-distinct = refl
 
 -- read
 
-module _ (t : List ℕ) (at : ℕ) where
+module _ (slim : Bool) (t : List ℕ) (at : ℕ) where
   -- an answer by the lines, and a record of six zeros where it is a refusal
   abbrev ReadAs : Reading → Type 0
-  ReadAs r = Answered (readLines t at) t (record { outcome = r .outcome; lent = t }) × ((¬ (r .outcome .answer ≡ 0)) → r .«record» ≡ zeros)
+  ReadAs r = Answered (readLines slim t at) t (record { outcome = r .outcome; lent = t }) × ((¬ (r .outcome .answer ≡ 0)) → r .«record» ≡ zeros)
 
-  read-lines : ReadAs (readCall t at)
+  read-lines : ReadAs (readCall slim t at)
   unfolding readCall
-  read-lines = go (headed t) (ltb at (used t)) (readable (recordAt t at)) (fails-headed t) (fails-ltb at (used t)) (fails-readable (recordAt t at))
+  read-lines = go (headed slim t) (ltb at (used t)) (readable (recordAt slim t at)) (fails-headed slim t) (fails-ltb at (used t)) (fails-readable (recordAt slim t at))
     where
-      go : (a b c : Bool) → Fails a (noTape t .when) → Fails b (notThere at t .when) → Fails c (unreadable (recordAt t at) .when)
-          → ReadAs (cond a (cond b (cond c (record { outcome = done; «record» = recordAt t at }) (noRecord 8)) (noRecord 6)) (noRecord 4))
-      go false b c four six eight = (answered-refused (noTape t) _ t (four .0 refl), λ not. refl)
-      go true false c four six eight = (answered-past (noTape t) _ t _ (four .1 refl) (answered-refused (notThere at t) _ t (six .0 refl)), λ not. refl)
+      go : (a b c : Bool) → Fails a (noTape slim t .when) → Fails b (notThere at t .when) → Fails c (unreadable (recordAt slim t at) .when)
+          → ReadAs (cond a (cond b (cond c (record { outcome = done; «record» = recordAt slim t at }) (noRecord 8)) (noRecord 6)) (noRecord 4))
+      go false b c four six eight = (answered-refused (noTape slim t) _ t (four .0 refl), λ not. refl)
+      go true false c four six eight = (answered-past (noTape slim t) _ t _ (four .1 refl) (answered-refused (notThere at t) _ t (six .0 refl)), λ not. refl)
       go true true false four six eight = (
-        answered-past (noTape t) _ t _ (four .1 refl) (answered-past (notThere at t) _ t _ (six .1 refl) (answered-refused (unreadable (recordAt t at)) [] t (eight .0 refl))),
+        answered-past (noTape slim t) _ t _ (four .1 refl) (answered-past (notThere at t) _ t _ (six .1 refl) (answered-refused (unreadable (recordAt slim t at)) [] t (eight .0 refl))),
         λ not. refl,
       )
       go true true true four six eight = (
-        answered-past (noTape t) _ t _ (four .1 refl)
+        answered-past (noTape slim t) _ t _ (four .1 refl)
             (answered-past (notThere at t) _ t _ (six .1 refl)
-            (answered-past (unreadable (recordAt t at)) [] t _ (eight .1 refl) (answered-done t (record { outcome = done; lent = t }) refl))),
+            (answered-past (unreadable (recordAt slim t at)) [] t _ (eight .1 refl) (answered-done t (record { outcome = done; lent = t }) refl))),
         λ not. absurd (not refl),
       )
 
   -- what read gives; it leaves the tape
-  pub read-answered : (reading : Reading) → reading ≡ readCall t at → Answered (readLines t at) t (record { outcome = reading .outcome; lent = t })
+  pub read-answered : (reading : Reading) → reading ≡ readCall slim t at → Answered (readLines slim t at) t (record { outcome = reading .outcome; lent = t })
   read-answered reading is = rw is (read-lines .0)
 
   -- a refused read gives a record of six zeros
-  pub read-zeros : (reading : Reading) → reading ≡ readCall t at → (¬ (reading .outcome .answer ≡ 0)) → reading .«record» ≡ zeros
+  pub read-zeros : (reading : Reading) → reading ≡ readCall slim t at → (¬ (reading .outcome .answer ≡ 0)) → reading .«record» ≡ zeros
   read-zeros reading is = rw is (read-lines .1)
 
-  pub read-distinct : Distinct (readLines t at)
+  pub read-distinct : Distinct (readLines slim t at)
   unfolding isOneOf areDistinct
   read-distinct = refl
 
@@ -161,32 +162,32 @@ module _ (registry t : ℕ) (lent : List ℕ) where
 
 -- walk and push
 
-module _ (shows : Walk) (registry : ℕ) (area : List ℕ) (base : ℕ) (t : List ℕ) where
-  area-lines : Answered (areaLines shows registry area base t) t (areaCall shows registry area base t)
+module _ (slim : Bool) (shows : Walk) (registry : ℕ) (area : List ℕ) (base : ℕ) (t : List ℕ) where
+  area-lines : Answered (areaLines slim shows registry area base t) t (areaCall slim shows registry area base t)
   unfolding callIn fitted
   area-lines = go (known-or-not registry)
     where
-      known : (r : Registry) → numberOf r ≤ 5 → Answered (areaLines shows (numberOf r) area base t) t (callIn shows (Known r) area base t)
+      known : (r : Registry) → numberOf r ≤ 5 → Answered (areaLines slim shows (numberOf r) area base t) t (callIn slim shows (Known r) area base t)
       known r low =
           let trees : Forest = shows (numberOf r) area base in
           answered-past (noRegistry (numberOf r)) _ t _ (λ past. omega (arith, low))
           (answered-check (tooLong area) _ (leb (length area) longest) t _ (fails-leb (length area) longest)
           (answered-check (tooFar area base) _ (leb (base + length area) furthest) t _ (fails-leb (base + length area) furthest)
-          (answered-check (noTape t) _ (headed t) t _ (fails-headed t)
-          (answered-room (tooMany (size trees) t) (leb (size trees) (room t - used t)) t (shown (covered area) trees t) (size trees) refl (fails-leb (size trees) (room t - used t))
-          (answered-done t (shown (covered area) trees t) refl)))))
+          (answered-check (noTape slim t) _ (headed slim t) t _ (fails-headed slim t)
+          (answered-room (tooMany slim (size trees) t) (leb (size trees) (room slim t - used t)) t (shown slim (covered area) trees t) (size trees) refl (fails-leb (size trees) (room slim t - used t))
+          (answered-done t (shown slim (covered area) trees t) refl)))))
 
-      go : KnownOrNot registry → Answered (areaLines shows registry area base t) t (areaCall shows registry area base t)
+      go : KnownOrNot registry → Answered (areaLines slim shows registry area base t) t (areaCall slim shows registry area base t)
       go (inl x) =
           rw (x .1)
-          (subst (λ (n : ℕ). Answered (areaLines shows n area base t) t (callIn shows (Known (x .0)) area base t)) (sym (x .2)) (known (x .0) (subst (λ (n : ℕ). n ≤ 5) (x .2) (x .3))))
+          (subst (λ (n : ℕ). Answered (areaLines slim shows n area base t) t (callIn slim shows (Known (x .0)) area base t)) (sym (x .2)) (known (x .0) (subst (λ (n : ℕ). n ≤ 5) (x .2) (x .3))))
       go (inr x) = rw (x .0) (answered-refused (noRegistry registry) _ t (x .1))
 
   -- for walk shows is `walked usual`, and for push `pushed usual`
-  pub area-answered : (o : Outcome) (x : List ℕ) → Gives (areaCall shows registry area base t) o x → Answered (areaLines shows registry area base t) t (record { outcome = o; lent = x })
-  area-answered o x ran = answered-run (areaLines shows registry area base t) t o x ran area-lines
+  pub area-answered : (o : Outcome) (x : List ℕ) → Gives (areaCall slim shows registry area base t) o x → Answered (areaLines slim shows registry area base t) t (record { outcome = o; lent = x })
+  area-answered o x ran = answered-run (areaLines slim shows registry area base t) t o x ran area-lines
 
-  pub area-distinct : Distinct (areaLines shows registry area base t)
+  pub area-distinct : Distinct (areaLines slim shows registry area base t)
   unfolding isOneOf areDistinct
   area-distinct = refl
 
@@ -199,7 +200,7 @@ module _ (input t : List ℕ) where
       let five = fails-leb 5 (length input) in
       let most = fails-leb (length (inputArea input)) longestDumped in
       answered-check (notTaken input) _ _ t _ (fails-and (leb 5 (length input)) _ five most)
-      (area-lines (pushed usual) (inputRegistry input) (inputArea input) (inputBase input) t)
+      (area-lines true (pushed usual) (inputRegistry input) (inputArea input) (inputBase input) t)
 
   pub dump-answered : (o : Outcome) (x : List ℕ) → Gives (dumpCall input t) o x → Answered (dumpLines input t) t (record { outcome = o; lent = x })
   dump-answered o x ran = answered-run (dumpLines input t) t o x ran dump-lines

@@ -22,13 +22,12 @@ use Rattle.meaning.specs.Frame.{entryLength, entries, covered, remainder, range
 use Rattle.meaning.specs.FrameLaws.{whole-fits, whole-is, entry-fits, range-fits, range-eight, covered-le, length-remainder}
 use Rattle.meaning.specs.Field.{Span, from, first, Element, numbers, msds, ranges, Field, part, flag, sid, array, tail, push, Plan}
 use Rattle.meaning.specs.Tree.{raw}
-use Rattle.meaning.specs.Sid.{sidTrees, sidEnd}
+use Rattle.meaning.specs.Sid.{sidEnd}
 use Rattle.meaning.specs.SidLaws.{size-sid-le, sid-four-end, sid-three-end}
 use Rattle.meaning.specs.Array.{octetsIn, startOf, elementLength, elementTrees, arrayOf}
 use Rattle.meaning.specs.Tail.{lengthAt, innerFits, inner}
 use Rattle.meaning.specs.Value.{fieldEnd, taken, Walk, pushBy, fieldTrees, fieldsTrees, valueTrees}
 use Rattle.meaning.specs.Area.{entryTrees, walkTrees, noWalk, innerWalk, walked, pushed}
-use Rattle.theorems.specs.Closed.{either}
 use Rattle.theorems.specs.Plan.{isPlain, need, areSparing, Spare, Sparing}
 
 -- pieces

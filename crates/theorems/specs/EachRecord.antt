@@ -1,4 +1,5 @@
 -- What holds of each record of a list, and of a tape.
+use mathlib.Core.Bool.{Bool}
 use mathlib.Core.List.{List, [], _∷_, _++_}
 use mathlib.Core.Path.{_≡_}
 use Prim.Native.Nat.{ℕ, zero, suc, _+_, _≤_, _<_}
@@ -17,12 +18,12 @@ each-record-++ P [] ys a b = b
 each-record-++ P (x ∷ xs) ys a b = (a .0, each-record-++ P xs ys (a .1) b)
 
 -- one of the records on a tape
-pub each-record-at : (P : Record → Type 0) (n : ℕ) (t : List ℕ) (at : ℕ) → EachRecord P (load t at n) → (i : ℕ) → at ≤ i → i < at + n → P (recordAt t i)
+pub each-record-at : (slim : Bool) (P : Record → Type 0) (n : ℕ) (t : List ℕ) (at : ℕ) → EachRecord P (load slim t at n) → (i : ℕ) → at ≤ i → i < at + n → P (recordAt slim t i)
 unfolding load
-each-record-at P zero t at each i from below = absurd (omega arith)
-each-record-at P (suc n) t at each i from below = go (decLe i at) (λ later. each-record-at P n t (suc at) (each .1) i later (omega arith))
+each-record-at slim P zero t at each i from below = absurd (omega arith)
+each-record-at slim P (suc n) t at each i from below = go (decLe i at) (λ later. each-record-at slim P n t (suc at) (each .1) i later (omega arith))
   where
-    go : Dec (i ≤ at) → (suc at ≤ i → P (recordAt t i)) → P (recordAt t i)
+    go : Dec (i ≤ at) → (suc at ≤ i → P (recordAt slim t i)) → P (recordAt slim t i)
     go (yes first) behind =
         let same : i ≡ at = omega arith in
         rw same (each .0)

@@ -1,4 +1,5 @@
 -- The records of an area, entry by entry, as they stand on a tape.
+use mathlib.Core.Bool.{Bool}
 use mathlib.Core.Path.{_≡_}
 use mathlib.Core.List.{List}
 use Prim.Native.Nat.{ℕ, suc, _+_}
@@ -31,8 +32,8 @@ beside leave registry area base = none
 beside show registry area base = raw registry (base + covered area) (remainder area)
 
 -- the records of trees stand on a tape, the first at a position
-abbrev pub Holds : List ℕ → ℕ → Forest → Type 0
-Holds tape at trees = load tape at (size trees) ≡ flat at trees
+abbrev pub Holds : Bool → List ℕ → ℕ → Forest → Type 0
+Holds slim tape at trees = load slim tape at (size trees) ≡ flat at trees
 
 -- an area of a registry at base, whose complete entries are ps, then q, then us
 module _ (plan : Plan) (registry base : ℕ) (ps : List (List ℕ)) (q : List ℕ) (us : List (List ℕ)) where
@@ -67,10 +68,10 @@ module _ (plan : Plan) (registry base : ℕ) (ps : List (List ℕ)) (q : List �
     endAt = afterAt + size after
 
     -- on a tape stand, from position `at` on, the array's record, the records of each entry, and those beside the array, and no others are new
-    pub record EntryByEntry (e : Ending) (area tape : List ℕ) (written : ℕ) : Type 0 where
-      pub top : recordAt tape at ≡ containerRecord (content (number Label.subTlvs) (containerNumber array) registry base (base + covered area) 0) (suc at) endAt
-      pub earlier : Holds tape (suc at) before
-      pub itself : Holds tape ownAt own
-      pub later : Holds tape afterAt after
-      pub aside : Holds tape endAt (beside e registry area base)
+    pub record EntryByEntry (slim : Bool) (e : Ending) (area tape : List ℕ) (written : ℕ) : Type 0 where
+      pub top : recordAt slim tape at ≡ containerRecord (content (number Label.subTlvs) (containerNumber array) registry base (base + covered area) 0) (suc at) endAt
+      pub earlier : Holds slim tape (suc at) before
+      pub itself : Holds slim tape ownAt own
+      pub later : Holds slim tape afterAt after
+      pub aside : Holds slim tape endAt (beside e registry area base)
       pub all : at + written ≡ endAt + size (beside e registry area base)

@@ -5,6 +5,8 @@ pub mod Form
 pub mod FormLaws
 pub mod Entries
 pub mod EntriesLaws
+pub mod Nearby
+pub mod NearbyLaws
 pub mod OneEntry
 pub mod OneEntryLaws
 pub mod TwoAreas
@@ -31,6 +33,9 @@ pub mod Unroll
 -- old records change nothing
 pub mod OldRecords
 pub mod OldRecordsLaws
+-- a call in either layout
+pub mod Layouts
+pub mod LayoutsLaws
 -- every call answers by the lines of the table
 pub mod Answers
 pub mod AnswersLaws

@@ -1,11 +1,12 @@
 -- What a walk or a push wrote, read gives back.
 use mathlib.Core.Path.{_≡_}
-use mathlib.Core.Bool.{true}
+use mathlib.Core.Bool.{Bool, true}
 use mathlib.Core.List.{List}
 use Prim.Native.Nat.{ℕ, zero, suc, _+_, _-_, _≤_, _<_}
 use Rattle.outcome.specs.Call.{done}
-use Rattle.tape.specs.Tape.{used, room, headed, recordAt, load, store}
+use Rattle.tape.specs.Tape.{InOrder, used, room, headed, recordAt, load, store}
 use Rattle.tape.specs.HeaderLaws.{headed-in-order, in-order-headed}
+use Rattle.tape.specs.Near.{Near}
 use Rattle.tape.specs.Forest.{Forest, none, leaf, node, size, flat}
 use Rattle.calls.specs.Calls.{readable, readCall}
 use Rattle.calls.specs.CallsLaws.{read-0}
@@ -32,16 +33,20 @@ sound-readable (suc d) (node m k f) x at = (
   each-record-++ Readable (flat (suc at) k) (flat (suc at + size k) f) (sound-readable d k (x .1 .0) (suc at)) (sound-readable (suc d) f (x .1 .1) (suc at + size k)),
 )
 
-module _ (t : List ℕ) (trees : Forest) (good : headed t ≡ true) (fits : size trees ≤ room t - used t) where
+module _ (slim : Bool) (t : List ℕ) (trees : Forest) (good : headed slim t ≡ true) (near : Near trees) (fits : size trees ≤ room slim t - used t) where
+  header : InOrder slim t
+  header = headed-in-order t good
+
   -- the header stays in order
-  appended-headed : headed (appended trees t) ≡ true
+  appended-headed : headed slim (appended slim trees t) ≡ true
   unfolding appended
   appended-headed =
-      in-order-headed (appended trees t) (in-order-laid t (store t (used t) (flat (used t) trees)) trees (used t) (used t + size trees) (laid t trees good fits) (headed-in-order t good) (inside t trees good fits))
+      let u : List ℕ = store slim t (used t) (flat (used t) trees) in
+      in-order-headed (appended slim trees t) (in-order-laid t u trees (used t) (used t + size trees) (laid slim t trees header fits) header (inside slim t trees header fits))
 
   -- a new record is read
   pub read-back : (d : ℕ) → Sound d trees → (i : ℕ) → used t ≤ i → i < used t + size trees
-      → readCall (appended trees t) i ≡ record { outcome = done; «record» = recordAt (appended trees t) i }
+      → readCall slim (appended slim trees t) i ≡ record { outcome = done; «record» = recordAt slim (appended slim trees t) i }
   read-back d sound i from below =
-      let all : EachRecord Readable (load (appended trees t) (used t) (size trees)) = rw (appended-load t trees good fits) (sound-readable d trees sound (used t)) in
-      read-0 (appended trees t) i appended-headed (rw (appended-used t trees good fits) below) (each-record-at Readable (size trees) (appended trees t) (used t) all i from below)
+      let all : EachRecord Readable (load slim (appended slim trees t) (used t) (size trees)) = rw (appended-load slim t trees header fits near) (sound-readable d trees sound (used t)) in
+      read-0 slim (appended slim trees t) i appended-headed (rw (appended-used slim t trees header fits) below) (each-record-at slim Readable (size trees) (appended slim trees t) (used t) all i from below)

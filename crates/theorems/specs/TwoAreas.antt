@@ -1,4 +1,5 @@
 -- Two runs as demand 3 speaks of, by computation: its premises can hold, with tapes that differ and another count of records.
+use mathlib.Core.Bool.{false}
 use mathlib.Core.Path.{_≡_, refl, sym, ap, _∙_}
 use mathlib.Core.Logic.{_⊎_, inl, inr}
 use mathlib.Core.List.{List, [], _∷_, _++_}
@@ -10,6 +11,7 @@ use Rattle.outcome.specs.Call.{After}
 use Rattle.octets.specs.BigEndian.{bigEndian}
 use Rattle.registry.specs.Registry.{registryOf}
 use Rattle.tape.specs.Tape.{headed, putAt, store}
+use Rattle.tape.specs.Layout.{wordOf, roomOf}
 use Rattle.tape.specs.Forest.{size, _⧺_, flat}
 use Rattle.meaning.specs.Cut.{piecesAfter, pieces, total, each}
 use Rattle.meaning.specs.Frame.{entryLength, entries, covered, remainder, rangeLength}
@@ -63,16 +65,16 @@ old n word = 1 ∷ 4 ∷ 6 ∷ 0 ∷ replicate n word
 
 -- the one run and the other
 abbrev after : Ending → ℕ → List ℕ → After
-after e kind tape = areaCall (called e usual) 2 (area kind) 100 tape
+after e kind tape = areaCall false (called e usual) 2 (area kind) 100 tape
 
 -- both are accepted, walk and push
 accepts : (e : Ending) → (after e 1 (old 150 7) .outcome .answer ≡ 0) × (after e 2 (old 170 9) .outcome .answer ≡ 0)
-unfolding bigEndian registryOf headed putAt store _⧺_ flat piecesAfter pieces total each entryLength entries covered remainder rangeLength table fieldsOf usual raw sidTrees sidEnd elementTrees arrayOf fieldEnd taken pushBy fieldTrees fieldsTrees valueTrees entryTrees walkTrees innerWalk walked pushed appended fitted callIn
+unfolding bigEndian registryOf wordOf roomOf headed putAt store _⧺_ flat piecesAfter pieces total each entryLength entries covered remainder rangeLength table fieldsOf usual raw sidTrees sidEnd elementTrees arrayOf fieldEnd taken pushBy fieldTrees fieldsTrees valueTrees entryTrees walkTrees innerWalk walked pushed appended fitted callIn
 accepts leave = (refl, refl)
 accepts show = (refl, refl)
 
 -- the premises hold
-pub two-areas : (e : Ending) → Two e usual 2 100 (area 1) (area 2) (old 150 7) (old 170 9) (after e 1 (old 150 7) .outcome) (after e 2 (old 170 9) .outcome) (after e 1 (old 150 7) .lent) (after e 2 (old 170 9) .lent) (ahead ∷ []) (0x02 ∷ 0x09 ∷ ranged 1) ((0x17 ∷ 0x02 ∷ 0x01 ∷ 0x0A ∷ []) ∷ [])
+pub two-areas : (e : Ending) → Two false false e usual 2 100 (area 1) (area 2) (old 150 7) (old 170 9) (after e 1 (old 150 7) .outcome) (after e 2 (old 170 9) .outcome) (after e 1 (old 150 7) .lent) (after e 2 (old 170 9) .lent) (ahead ∷ []) (0x02 ∷ 0x09 ∷ ranged 1) ((0x17 ∷ 0x02 ∷ 0x01 ∷ 0x0A ∷ []) ∷ [])
 unfolding total entryLength entries pieces piecesAfter
 two-areas e =
     record {

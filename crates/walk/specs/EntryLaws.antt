@@ -1,4 +1,5 @@
 -- An entry, out of its parts.
+use mathlib.Core.Bool.{Bool}
 use mathlib.Core.Path.{_≡_, ap}
 use mathlib.Core.List.{List}
 use Prim.Native.Nat.{ℕ, _+_, _≤_}
@@ -21,12 +22,12 @@ use Rattle.walk.specs.RestLaws.{value-is}
 -- an entry e, whose first octet stands at base
 module _ (k : ℕ) (e : List ℕ) (base : ℕ) where
   -- what the decoder shows, the rest, and the object, the type and the length in front of them
-  pub entry-made : {t u v w : List ℕ} {at next : ℕ} {d : Decoded} (registry : ℕ) → registry ≡ k
-      → Reads (reading k (getD e 0 0) (drop 2 e) (base + 2)) t u (at + 3) d
-      → Laid (restOf registry (drop 2 e) (base + 2) (d .taken)) u v (d .next .0) next
-      → w ≡ putAt (putAt (putAt v (at + 2) (leafRecord (content 1 0 registry (base + 1) (base + 2) (getD e 1 0)))) (at + 1) (leafRecord (content 0 0 registry base (base + 1) (getD e 0 0)))) at
+  pub entry-made : {slim : Bool} {t u v w : List ℕ} {at next : ℕ} {d : Decoded} (registry : ℕ) → registry ≡ k
+      → Reads slim (reading k (getD e 0 0) (drop 2 e) (base + 2)) t u (at + 3) d
+      → Laid slim (restOf registry (drop 2 e) (base + 2) (d .taken)) u v (d .next .0) next
+      → w ≡ putAt slim (putAt slim (putAt slim v (at + 2) (leafRecord (content 1 0 registry (base + 1) (base + 2) (getD e 1 0)))) (at + 1) (leafRecord (content 0 0 registry base (base + 1) (getD e 0 0)))) at
       (containerRecord (content 47 8 registry base (base + length e) 0) (at + 1) next)
-      → Laid (entryTrees usual (walked usual) k e base) t w at next
+      → Laid slim (entryTrees usual (walked usual) k e base) t w at next
   unfolding entryTrees _⧺_
   entry-made registry same decoded rest put =
       laid-container-of-two (content 47 8 k base (base + length e) 0) (content 0 0 k base (base + 1) (getD e 0 0)) (content 1 0 k (base + 1) (base + 2) (getD e 1 0))

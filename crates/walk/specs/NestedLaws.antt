@@ -50,7 +50,7 @@ module _ (k registry : ℕ) (v : List ℕ) (base : ℕ) (row : OneRow registry k
       record { octet = room .octet; position = omega (arith, room .position, behind, ap (λ (x : Reading). size (x .found)) nested-is, size-⧺ head trees) }
 
   -- the head, and then the field
-  pub nested-made : {t u w : List ℕ} {at next : ℕ} {d : Decoded} → Laid head t u at next → Reads (took (fieldEnd v f) trees) u w next d → Reads (readingOf registry v base (usual registry k v)) t w at d
+  pub nested-made : {slim : Bool} {t u w : List ℕ} {at next : ℕ} {d : Decoded} → Laid slim head t u at next → Reads slim (took (fieldEnd v f) trees) u w next d → Reads slim (readingOf registry v base (usual registry k v)) t w at d
   nested-made laid reads = reads-as nested-is (record { taken = reads .taken; laid = laid-then laid (reads .laid) })
 
 -- a system id is one record at most
@@ -80,15 +80,15 @@ end-x kind id v base from upto there = go (decLe kind 43)
     go (no high) = at 44 (omega arith) (record { row = refl; least = refl; is = refl })
 
 -- the SRv6 tail of a value v from a place on
-module _ (registry : ℕ) (v : List ℕ) (base at : ℕ) {t u : List ℕ} {position next : ℕ}
-    (sid : Laid (leaf (content 29 5 registry (base + at) (base + at + 16) 0) none) t u position next) where
+module _ (registry : ℕ) (v : List ℕ) (base at : ℕ) {slim : Bool} {t u : List ℕ} {position next : ℕ}
+    (sid : Laid slim (leaf (content 29 5 registry (base + at) (base + at + 16) 0) none) t u position next) where
   -- its SID
-  sid-laid : Laid (leaf (content 29 5 registry (base + at) (base + (at + 16)) 0) none) t u position next
+  sid-laid : Laid slim (leaf (content 29 5 registry (base + at) (base + (at + 16)) 0) none) t u position next
   sid-laid = rw (add-assoc base at 16) at sid
 
   -- the SID alone
   pub tail-alone : {d : Decoded} → Alone (walked usual) registry v base at → d .taken ≡ Octets (at + 16) → d .next .0 ≡ next
-      → Reads (took (fieldEnd v (tail at)) (fieldTrees (walked usual) registry v base (tail at))) t u position d
+      → Reads slim (took (fieldEnd v (tail at)) (fieldTrees (walked usual) registry v base (tail at))) t u position d
   tail-alone alone taken after = record { taken = taken ∙ ap Octets (sym (alone .takes)); laid = rw (alone .shows, after) sid-laid }
 
   -- the octets of the inner area, as the code passes them on
@@ -116,9 +116,9 @@ module _ (registry : ℕ) (v : List ℕ) (base at : ℕ) {t u : List ℕ} {posit
         }
 
     -- the SID, and the inner area behind it
-    pub inner-made : {w : List ℕ} {s : Shown} {d : Decoded} → Shows (covered inside) (walked usual (numberOf Srv6Sid) inside (base + (at + 16 + 1))) u w next s
+    pub inner-made : {w : List ℕ} {s : Shown} {d : Decoded} → Shows slim (covered inside) (walked usual (numberOf Srv6Sid) inside (base + (at + 16 + 1))) u w next s
         → d .taken ≡ Octets (at + 16 + 1 + s .covered) → d .next .0 ≡ s .next .0
-        → Reads (took (fieldEnd v (tail at)) (fieldTrees (walked usual) registry v base (tail at))) t w position d
+        → Reads slim (took (fieldEnd v (tail at)) (fieldTrees (walked usual) registry v base (tail at))) t w position d
     inner-made walk taken after =
         let shown = rw inside-is at walk in
         record {
@@ -139,8 +139,8 @@ module _ (registry : ℕ) (v : List ℕ) (base at : ℕ) where
   behind-room there room = rw (part-rest at v) (record { octet = omega (arith, room .octet, length-drop at v); position = room .position })
 
   -- it takes the whole value
-  pub behind-made : {t u : List ℕ} {position : ℕ} {s : Shown} {d : Decoded} → Shows (covered behind) (pushed usual (numberOf Unregistered) behind (base + at)) t u position s
+  pub behind-made : {slim : Bool} {t u : List ℕ} {position : ℕ} {s : Shown} {d : Decoded} → Shows slim (covered behind) (pushed usual (numberOf Unregistered) behind (base + at)) t u position s
       → d .taken ≡ Octets (length v) → d .next .0 ≡ s .next .0
-      → Reads (took (fieldEnd v (push at)) (fieldTrees (walked usual) registry v base (push at))) t u position d
+      → Reads slim (took (fieldEnd v (push at)) (fieldTrees (walked usual) registry v base (push at))) t u position d
   unfolding fieldTrees fieldEnd pushed
   behind-made shows taken after = record { taken = taken; laid = rw after ((rw (part-rest at v) at shows) .laid) }

@@ -1,4 +1,5 @@
 -- Laws of what follows a decoder's records.
+use mathlib.Core.Bool.{Bool}
 use mathlib.Core.Path.{_≡_, refl}
 use mathlib.Core.List.{List, [], _∷_}
 use Prim.Native.Nat.{ℕ, _+_}
@@ -15,8 +16,8 @@ use Rattle.readings.specs.Reading.{readingOf}
 use Rattle.walk.specs.Rest.{restOf}
 
 -- a value without fields
-pub value-laid : (registry base : ℕ) (v : List ℕ) {t u : List ℕ} {at next : ℕ}
-    → Laid (leaf (content 2 6 registry (base + 0) (base + 0 + length v) 0) none) t u at next → Laid (value registry base v) t u at next
+pub value-laid : (registry base : ℕ) (v : List ℕ) {slim : Bool} {t u : List ℕ} {at next : ℕ}
+    → Laid slim (leaf (content 2 6 registry (base + 0) (base + 0 + length v) 0) none) t u at next → Laid slim (value registry base v) t u at next
 value-laid registry base v h = rw add-zero at h
 
 -- a value is what its decoder shows, and the rest

@@ -1,4 +1,5 @@
 -- A walk and a push, out of their parts.
+use mathlib.Core.Bool.{Bool}
 use mathlib.Core.Path.{_≡_, sym, ap, _∙_}
 use mathlib.Core.List.{List, [], _∷_}
 use Prim.Native.Nat.{ℕ, _+_, _≤_, _<_}
@@ -37,11 +38,11 @@ module _ (k : ℕ) (area : List ℕ) (base : ℕ) where
   each-entry = entryTrees usual (walked usual) k
 
   -- where the area is empty, nothing is shown
-  pub walk-none : {t : List ℕ} {at : Position} → length area ≡ 0 → Shows (covered area) (walked usual k area base) t t (at .0) (record { covered = 0; next = at })
+  pub walk-none : {slim : Bool} {t : List ℕ} {at : Position} → length area ≡ 0 → Shows slim (covered area) (walked usual k area base) t t (at .0) (record { covered = 0; next = at })
   unfolding walkTrees
   walk-none empty = go area empty
     where
-      go : (a : List ℕ) → length a ≡ 0 → {t : List ℕ} {at : Position} → Shows (covered a) (walked usual k a base) t t (at .0) (record { covered = 0; next = at })
+      go : (a : List ℕ) → length a ≡ 0 → {slim : Bool} {t : List ℕ} {at : Position} → Shows slim (covered a) (walked usual k a base) t t (at .0) (record { covered = 0; next = at })
       go [] empty = record { covers = sym covered-none; laid = rw (walk-again k [] base) laid-none }
       go (x ∷ xs) empty = absurd (omega arith)
 
@@ -51,7 +52,7 @@ module _ (k : ℕ) (area : List ℕ) (base : ℕ) where
   walk-some some = walk-again k area base ∙ walk-shows usual (walked usual) k area base (λ empty. omega (arith, ap length empty))
 
   -- entries are laid behind position at; octets are left, of which the first stands at place
-  module _ {t u octets : List ℕ} {at place next : ℕ} (c : CutOff entryLength each-entry base area t u (at + 1) octets place next) where
+  module _ {slim : Bool} {t u octets : List ℕ} {at place next : ℕ} (c : CutOff slim entryLength each-entry base area t u (at + 1) octets place next) where
     -- the room that the next entry has, of w octets
     pub next-room : (w : ℕ) → entryLength octets ≡ w → 0 < w → Room (walked usual k area base) (length area) base at
         → Room (each-entry (take w octets) place) (length (take w octets)) place next
@@ -73,8 +74,8 @@ module _ (k : ℕ) (area : List ℕ) (base : ℕ) where
 
     -- after the last entry the array is put in front
     pub walk-made : {v : List ℕ} {r : Shown} (registry : ℕ) → registry ≡ k → 0 < length area → entryLength octets ≡ 0 → r .next .0 ≡ next → base + r .covered ≡ place
-        → v ≡ putAt u at (containerRecord (content 4 7 registry base (base + r .covered) 0) (at + 1) next)
-        → Shows (covered area) (walked usual k area base) t v at r
+        → v ≡ putAt slim u at (containerRecord (content 4 7 registry base (base + r .covered) 0) (at + 1) next)
+        → Shows slim (covered area) (walked usual k area base) t v at r
     unfolding covered entries
     walk-made {r = r} registry same some stops after ends put =
         let covers : r .covered ≡ c .cut = omega (arith, ends, c .there) in
@@ -89,9 +90,9 @@ module _ (k : ℕ) (area : List ℕ) (base : ℕ) where
       record { octet = room .octet; position = omega (arith, room .position, size-⧺ (walked usual k area base) (raw k (base + covered area) (remainder area))) }
 
   -- the walk, and the remainder beside it
-  pub push-made : {t u w : List ℕ} {at next : ℕ} {s r : Shown} (registry : ℕ) → registry ≡ k → Shows (covered area) (walked usual k area base) t u at s
-      → Laid (raw registry (base + s .covered) (drop (s .covered) area)) u w (s .next .0) next → r .covered ≡ s .covered → r .next .0 ≡ next
-      → Shows (covered area) (pushed usual k area base) t w at r
+  pub push-made : {slim : Bool} {t u w : List ℕ} {at next : ℕ} {s r : Shown} (registry : ℕ) → registry ≡ k → Shows slim (covered area) (walked usual k area base) t u at s
+      → Laid slim (raw registry (base + s .covered) (drop (s .covered) area)) u w (s .next .0) next → r .covered ≡ s .covered → r .next .0 ≡ next
+      → Shows slim (covered area) (pushed usual k area base) t w at r
   unfolding pushed pushBy remainder
   push-made registry same walk rest covers after =
       record { covers = covers ∙ walk .covers; laid = rw after (laid-then (walk .laid) (rw (same, walk .covers) at rest)) }

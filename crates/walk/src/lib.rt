@@ -46,9 +46,16 @@ ghost use Rattle.readings.specs.Rows.{octetsAt};
 ghost use Rattle.walk.specs.Rest.{restOf, Room};
 
 // Lays the octets from `at` on as one `raw` record, or nothing where there are none.
-fn raw(octets: &[u8], source: Source, at: usize, tape: &mut [u64], position: Position) -> Position
+fn raw(
+    octets: &[u8],
+    source: Source,
+    at: usize,
+    tape: &mut [u64],
+    slim: bool,
+    position: Position,
+) -> Position
     requires { ⌜ (source .base .0 + length (now octets) < 2 ^ 32) × (position .0 < 2 ^ 60) ⌝ }
-    ensures { λ r. ⌜ Laid (rawTrees (source .registry) (source .base .0 + at) (drop at (now (octets .entry)))) (now (tape .entry)) (now (tape .exit)) (position .0) (r .0) ⌝ }
+    ensures { λ r. ⌜ Laid slim (rawTrees (source .registry) (source .base .0 + at) (drop at (now (octets .entry)))) (now (tape .entry)) (now (tape .exit)) (position .0) (r .0) ⌝ }
 {
     let n = octets.len();
     if n <= at {
@@ -62,6 +69,7 @@ fn raw(octets: &[u8], source: Source, at: usize, tape: &mut [u64], position: Pos
         n - at,
         0,
         tape,
+        slim,
         position,
     )
 }
@@ -72,24 +80,41 @@ fn rest(
     source: Source,
     taken: Taken,
     tape: &mut [u64],
+    slim: bool,
     position: Position,
 ) -> Position
     requires { ⌜ (source .base .0 + length (now value) < 2 ^ 32) × (position .0 < 2 ^ 60) ⌝ }
-    ensures { λ r. ⌜ Laid (restOf (source .registry) (now (value .entry)) (source .base .0) taken) (now (tape .entry)) (now (tape .exit)) (position .0) (r .0) ⌝ }
+    ensures { λ r. ⌜ Laid slim (restOf (source .registry) (now (value .entry)) (source .base .0) taken) (now (tape .entry)) (now (tape .exit)) (position .0) (r .0) ⌝ }
 {
     match taken {
-        Taken::Octets(k) => raw(value, source, k, tape, position),
+        Taken::Octets(k) => raw(value, source, k, tape, slim, position),
         Taken::Nothing => {
             let n = value.len();
-            part(source, Label::VALUE, Shape::BYTES, 0, n, 0, tape, position)
+            part(
+                source,
+                Label::VALUE,
+                Shape::BYTES,
+                0,
+                n,
+                0,
+                tape,
+                slim,
+                position,
+            )
         }
     }
 }
 
 // Lays the 16 octets of an SRv6 SID from `at` on.
-fn sid_octets(source: Source, at: usize, tape: &mut [u64], position: Position) -> Position
+fn sid_octets(
+    source: Source,
+    at: usize,
+    tape: &mut [u64],
+    slim: bool,
+    position: Position,
+) -> Position
     requires { ⌜ (source .base .0 + at + 16 < 2 ^ 32) × (position .0 < 2 ^ 60) ⌝ }
-    ensures { λ r. ⌜ Laid (octetsAt 29 5 at 16 (source .registry) (source .base .0)) (now (tape .entry)) (now (tape .exit)) (position .0) (r .0) ⌝ }
+    ensures { λ r. ⌜ Laid slim (octetsAt 29 5 at 16 (source .registry) (source .base .0)) (now (tape .entry)) (now (tape .exit)) (position .0) (r .0) ⌝ }
 {
     part(
         source,
@@ -99,19 +124,27 @@ fn sid_octets(source: Source, at: usize, tape: &mut [u64], position: Position) -
         16,
         0,
         tape,
+        slim,
         position,
     )
 }
 
 // The SRv6 tail (RFC 9352, section 7.2): 16 octets of SID, a length octet, and an inner area, which is walked in registry 4.
-fn tail(value: &[u8], source: Source, at: usize, tape: &mut [u64], position: Position) -> Decoded
+fn tail(
+    value: &[u8],
+    source: Source,
+    at: usize,
+    tape: &mut [u64],
+    slim: bool,
+    position: Position,
+) -> Decoded
     requires { ⌜ (at + 16 ≤ length (now value)) × Room (fieldTrees (walked usual) (source .registry) (now value) (source .base .0) (tailField at)) (length (now value)) (source .base .0) (position .0) ⌝ }
-    ensures { λ r. ⌜ Reads (took (fieldEnd (now (value .entry)) (tailField at)) (fieldTrees (walked usual) (source .registry) (now (value .entry)) (source .base .0) (tailField at))) (now (tape .entry)) (now (tape .exit)) (position .0) r ⌝ }
+    ensures { λ r. ⌜ Reads slim (took (fieldEnd (now (value .entry)) (tailField at)) (fieldTrees (walked usual) (source .registry) (now (value .entry)) (source .base .0) (tailField at))) (now (tape .entry)) (now (tape .exit)) (position .0) r ⌝ }
 {
     let n = value.len();
     let base = source.base.0;
     let length_at = at + 16;
-    let after = sid_octets(source, at, tape, position);
+    let after = sid_octets(source, at, tape, slim, position);
     if n <= length_at {
         return Decoded {
             taken: Taken::Octets(length_at),
@@ -131,6 +164,7 @@ fn tail(value: &[u8], source: Source, at: usize, tape: &mut [u64], position: Pos
         Octet(base + start),
         Registry::Srv6Sid,
         tape,
+        slim,
         after,
     );
     let covered = shown.covered;
@@ -142,9 +176,16 @@ fn tail(value: &[u8], source: Source, at: usize, tape: &mut [u64], position: Pos
 }
 
 // A value of registry 0, by its type. The types 43 and 44 differ in the neighbor's system id, 6 octets that type 44 has in front.
-fn decode_neighbor(value: &[u8], kind: u8, base: Octet, tape: &mut [u64], at: Position) -> Decoded
+fn decode_neighbor(
+    value: &[u8],
+    kind: u8,
+    base: Octet,
+    tape: &mut [u64],
+    slim: bool,
+    at: Position,
+) -> Decoded
     requires { ⌜ (kind ≡ 31 → ⊥) × Room (reading 0 kind (now value) (base .0) .found) (length (now value)) (base .0) (at .0) ⌝ }
-    ensures { λ r. ⌜ Reads (reading 0 kind (now (value .entry)) (base .0)) (now (tape .entry)) (now (tape .exit)) (at .0) r ⌝ }
+    ensures { λ r. ⌜ Reads slim (reading 0 kind (now (value .entry)) (base .0)) (now (tape .entry)) (now (tape .exit)) (at .0) r ⌝ }
 {
     let n = value.len();
     let source = Source {
@@ -160,18 +201,25 @@ fn decode_neighbor(value: &[u8], kind: u8, base: Octet, tape: &mut [u64], at: Po
                     next: at,
                 };
             }
-            let second = system_id(source, id, tape, at);
-            let next = end_x_head(value, source, id, tape, second);
-            tail(value, source, id + 5, tape, next)
+            let second = system_id(source, id, tape, slim, at);
+            let next = end_x_head(value, source, id, tape, slim, second);
+            tail(value, source, id + 5, tape, slim, next)
         }
-        _ => neighbor(value, kind, base, tape, at),
+        _ => neighbor(value, kind, base, tape, slim, at),
     }
 }
 
 // A value of registry 1, by its type.
-fn decode_prefix(value: &[u8], kind: u8, base: Octet, tape: &mut [u64], at: Position) -> Decoded
+fn decode_prefix(
+    value: &[u8],
+    kind: u8,
+    base: Octet,
+    tape: &mut [u64],
+    slim: bool,
+    at: Position,
+) -> Decoded
     requires { ⌜ (kind ≡ 3 → ⊥) × Room (reading 1 kind (now value) (base .0) .found) (length (now value)) (base .0) (at .0) ⌝ }
-    ensures { λ r. ⌜ Reads (reading 1 kind (now (value .entry)) (base .0)) (now (tape .entry)) (now (tape .exit)) (at .0) r ⌝ }
+    ensures { λ r. ⌜ Reads slim (reading 1 kind (now (value .entry)) (base .0)) (now (tape .entry)) (now (tape .exit)) (at .0) r ⌝ }
 {
     let n = value.len();
     let source = Source {
@@ -186,10 +234,10 @@ fn decode_prefix(value: &[u8], kind: u8, base: Octet, tape: &mut [u64], at: Posi
                     next: at,
                 };
             }
-            let next = end_head(value, source, tape, at);
-            tail(value, source, 3, tape, next)
+            let next = end_head(value, source, tape, slim, at);
+            tail(value, source, 3, tape, slim, next)
         }
-        _ => prefix(value, kind, base, tape, at),
+        _ => prefix(value, kind, base, tape, slim, at),
     }
 }
 
@@ -199,10 +247,11 @@ fn decode_router_capability(
     kind: u8,
     base: Octet,
     tape: &mut [u64],
+    slim: bool,
     at: Position,
 ) -> Decoded
     requires { ⌜ Room (reading 2 kind (now value) (base .0) .found) (length (now value)) (base .0) (at .0) ⌝ }
-    ensures { λ r. ⌜ Reads (reading 2 kind (now (value .entry)) (base .0)) (now (tape .entry)) (now (tape .exit)) (at .0) r ⌝ }
+    ensures { λ r. ⌜ Reads slim (reading 2 kind (now (value .entry)) (base .0)) (now (tape .entry)) (now (tape .exit)) (at .0) r ⌝ }
 {
     let n = value.len();
     let source = Source {
@@ -217,12 +266,13 @@ fn decode_router_capability(
                     next: at,
                 };
             }
-            let after = number16(value, source, Label::SRV6_FLAGS, 0, tape, at);
+            let after = number16(value, source, Label::SRV6_FLAGS, 0, tape, slim, at);
             let shown = push(
                 &value[2..n],
                 Octet(base.0 + 2),
                 Registry::Unregistered,
                 tape,
+                slim,
                 after,
             );
             let next = shown.next;
@@ -231,7 +281,7 @@ fn decode_router_capability(
                 next,
             }
         }
-        _ => router_capability(value, kind, base, tape, at),
+        _ => router_capability(value, kind, base, tape, slim, at),
     }
 }
 
@@ -242,10 +292,11 @@ fn decode(
     base: Octet,
     registry: Registry,
     tape: &mut [u64],
+    slim: bool,
     at: Position,
 ) -> Decoded
     requires { ⌜ Room (reading (numberOf registry) kind (now value) (base .0) .found) (length (now value)) (base .0) (at .0) ⌝ }
-    ensures { λ r. ⌜ Reads (reading (numberOf registry) kind (now (value .entry)) (base .0)) (now (tape .entry)) (now (tape .exit)) (at .0) r ⌝ }
+    ensures { λ r. ⌜ Reads slim (reading (numberOf registry) kind (now (value .entry)) (base .0)) (now (tape .entry)) (now (tape .exit)) (at .0) r ⌝ }
 {
     let label = octet_label(registry, kind);
     if 0 < label {
@@ -253,14 +304,14 @@ fn decode(
             registry: registry.number() as u8,
             base,
         };
-        return octet_and_sid(value, source, label, tape, at);
+        return octet_and_sid(value, source, label, tape, slim, at);
     }
     match registry {
-        Registry::Neighbor => decode_neighbor(value, kind, base, tape, at),
-        Registry::Prefix => decode_prefix(value, kind, base, tape, at),
-        Registry::RouterCapability => decode_router_capability(value, kind, base, tape, at),
-        Registry::Binding => binding(value, kind, base, tape, at),
-        Registry::Srv6Sid => srv6_sid(value, kind, base, tape, at),
+        Registry::Neighbor => decode_neighbor(value, kind, base, tape, slim, at),
+        Registry::Prefix => decode_prefix(value, kind, base, tape, slim, at),
+        Registry::RouterCapability => decode_router_capability(value, kind, base, tape, slim, at),
+        Registry::Binding => binding(value, kind, base, tape, slim, at),
+        Registry::Srv6Sid => srv6_sid(value, kind, base, tape, slim, at),
         Registry::Unregistered => Decoded {
             taken: Taken::Nothing,
             next: at,
@@ -275,11 +326,12 @@ fn entry_head(
     length: u8,
     n: usize,
     tape: &mut [u64],
+    slim: bool,
     at: Position,
     next: Position,
 )
     requires { ⌜ (source .base .0 + n + 2 < 2 ^ 33) × (at .0 < 2 ^ 60) ⌝ }
-    ensures { λ _. ⌜ now (tape .exit) ≡ putAt (putAt (putAt (now (tape .entry)) (at .0 + 2) (leafRecord (content 1 0 (source .registry) (source .base .0 + 1) (source .base .0 + 2) length))) (at .0 + 1) (leafRecord (content 0 0 (source .registry) (source .base .0) (source .base .0 + 1) kind))) (at .0) (containerRecord (content 47 8 (source .registry) (source .base .0) (source .base .0 + n) 0) (at .0 + 1) (next .0)) ⌝ }
+    ensures { λ _. ⌜ now (tape .exit) ≡ putAt slim (putAt slim (putAt slim (now (tape .entry)) (at .0 + 2) (leafRecord (content 1 0 (source .registry) (source .base .0 + 1) (source .base .0 + 2) length))) (at .0 + 1) (leafRecord (content 0 0 (source .registry) (source .base .0) (source .base .0 + 1) kind))) (at .0) (containerRecord (content 47 8 (source .registry) (source .base .0) (source .base .0 + n) 0) (at .0 + 1) (next .0)) ⌝ }
 {
     let registry = source.registry;
     let start = source.base.0;
@@ -307,13 +359,20 @@ fn entry_head(
         end: Octet(start + 2),
         number: length as u64,
     };
-    lay::container_of_two(tape, at, whole, first, second, next)
+    lay::container_of_two(tape, slim, at, whole, first, second, next)
 }
 
 // Lays a complete entry: its value, and then its object, type and length in front of it.
-fn entry(octets: &[u8], base: Octet, registry: Registry, tape: &mut [u64], at: Position) -> Position
+fn entry(
+    octets: &[u8],
+    base: Octet,
+    registry: Registry,
+    tape: &mut [u64],
+    slim: bool,
+    at: Position,
+) -> Position
     requires { ⌜ (2 ≤ length (now octets)) × Room (entryTrees usual (walked usual) (numberOf registry) (now octets) (base .0)) (length (now octets)) (base .0) (at .0) ⌝ }
-    ensures { λ r. ⌜ Laid (entryTrees usual (walked usual) (numberOf registry) (now (octets .entry)) (base .0)) (now (tape .entry)) (now (tape .exit)) (at .0) (r .0) ⌝ }
+    ensures { λ r. ⌜ Laid slim (entryTrees usual (walked usual) (numberOf registry) (now (octets .entry)) (base .0)) (now (tape .entry)) (now (tape .exit)) (at .0) (r .0) ⌝ }
 {
     let n = octets.len();
     let kind = octets[0];
@@ -321,23 +380,38 @@ fn entry(octets: &[u8], base: Octet, registry: Registry, tape: &mut [u64], at: P
     let k = registry.number() as u8;
     let inside = Octet(base.0 + 2);
     let value = &octets[2..n];
-    let decoded = decode(value, kind, inside, registry, tape, Position(at.0 + 3));
+    let decoded = decode(
+        value,
+        kind,
+        inside,
+        registry,
+        tape,
+        slim,
+        Position(at.0 + 3),
+    );
     let taken = decoded.taken;
     let after = decoded.next;
     let behind = Source {
         registry: k,
         base: inside,
     };
-    let next = rest(value, behind, taken, tape, after);
+    let next = rest(value, behind, taken, tape, slim, after);
     let source = Source { registry: k, base };
-    entry_head(source, kind, length, n, tape, at, next);
+    entry_head(source, kind, length, n, tape, slim, at, next);
     next
 }
 
 // Lays the complete entries of an area, and then the `sub_tlvs` array in front of them; nothing where the area is empty.
-pub fn walk(area: &[u8], base: Octet, registry: Registry, tape: &mut [u64], at: Position) -> Shown
+pub fn walk(
+    area: &[u8],
+    base: Octet,
+    registry: Registry,
+    tape: &mut [u64],
+    slim: bool,
+    at: Position,
+) -> Shown
     requires { ⌜ Room (walked usual (numberOf registry) (now area) (base .0)) (length (now area)) (base .0) (at .0) ⌝ }
-    ensures { λ r. ⌜ Shows (covered (now (area .entry))) (walked usual (numberOf registry) (now (area .entry)) (base .0)) (now (tape .entry)) (now (tape .exit)) (at .0) r ⌝ }
+    ensures { λ r. ⌜ Shows slim (covered (now (area .entry))) (walked usual (numberOf registry) (now (area .entry)) (base .0)) (now (tape .entry)) (now (tape .exit)) (at .0) r ⌝ }
 {
     let n = area.len();
     if n == 0 {
@@ -354,7 +428,7 @@ pub fn walk(area: &[u8], base: Octet, registry: Registry, tape: &mut [u64], at: 
         if left.len() < length {
             break;
         }
-        next = entry(&left[0..length], place, registry, tape, next);
+        next = entry(&left[0..length], place, registry, tape, slim, next);
         left = &left[length..];
         place = Octet(place.0 + length);
     }
@@ -369,6 +443,7 @@ pub fn walk(area: &[u8], base: Octet, registry: Registry, tape: &mut [u64], at: 
         Shape::ARRAY,
         covered,
         tape,
+        slim,
         at,
         next,
     );
@@ -376,17 +451,24 @@ pub fn walk(area: &[u8], base: Octet, registry: Registry, tape: &mut [u64], at: 
 }
 
 // Lays the walk of an area, and one `raw` record beside it for the octets that it does not cover, if there are any.
-pub fn push(area: &[u8], base: Octet, registry: Registry, tape: &mut [u64], at: Position) -> Shown
+pub fn push(
+    area: &[u8],
+    base: Octet,
+    registry: Registry,
+    tape: &mut [u64],
+    slim: bool,
+    at: Position,
+) -> Shown
     requires { ⌜ Room (pushed usual (numberOf registry) (now area) (base .0)) (length (now area)) (base .0) (at .0) ⌝ }
-    ensures { λ r. ⌜ Shows (covered (now (area .entry))) (pushed usual (numberOf registry) (now (area .entry)) (base .0)) (now (tape .entry)) (now (tape .exit)) (at .0) r ⌝ }
+    ensures { λ r. ⌜ Shows slim (covered (now (area .entry))) (pushed usual (numberOf registry) (now (area .entry)) (base .0)) (now (tape .entry)) (now (tape .exit)) (at .0) r ⌝ }
 {
-    let shown = walk(area, base, registry, tape, at);
+    let shown = walk(area, base, registry, tape, slim, at);
     let covered = shown.covered;
     let after = shown.next;
     let source = Source {
         registry: registry.number() as u8,
         base,
     };
-    let next = raw(area, source, covered, tape, after);
+    let next = raw(area, source, covered, tape, slim, after);
     Shown { covered, next }
 }

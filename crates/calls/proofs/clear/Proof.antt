@@ -1,4 +1,3 @@
--- Under four words it is refused; otherwise four words are written.
 use mathlib.Core.Path.{refl}
 use native.Mathlib.Omega.{arith}
 use lib.ListN.{length-set}
@@ -12,7 +11,10 @@ refused-requires : tie.Need-refused-requires
 refused-requires c κs = search needs
 
 returns : tie.Need-returns
-returns c = gives-as (clear-4 _ (c .before .if1 .taken)) (record { gave = c .refused .ensures; left = refl })
+returns c = gives-as (clear-4 _ _ (c .before .if1 .taken)) (record { gave = c .refused .ensures; left = refl })
+
+width-requires : tie.Need-width-requires
+width-requires c κs = search needs
 
 slice-write-tape : tie.Need-slice-write-tape
 slice-write-tape c = search needs
@@ -33,7 +35,7 @@ same-length : tie.Need-same-length
 same-length c = search needs
 
 returns-2 : tie.Need-returns-2
-returns-2 c = gives-as (clear-0 _ (c .before .if1 .left)) (record { gave = c .done .ensures; left = refl })
+returns-2 c = gives-as (clear-0 _ _ (c .before .before .if1 .left)) (record { gave = c .done .ensures; left = rw (c .before .width .ensures .0) refl })
 
 pub clear-spec : {M : Type 1} → statement M
 clear-spec =
@@ -41,6 +43,7 @@ clear-spec =
     (tie.spec
     refused-requires
     returns
+    width-requires
     slice-write-tape
     slice-write-tape-2
     slice-write-tape-3

@@ -19,7 +19,7 @@ same-length : tie.Need-same-length
 same-length c = search needs
 
 returns : tie.Need-returns
-returns c = gives-as (cut-4 _ _ (sym (c .before .before .in-order .ensures) ∙ not-true _ (c .before .if1 .taken))) (record { gave = c .refused .ensures; left = refl })
+returns c = gives-as (cut-4 _ _ _ (sym (c .before .before .in-order .ensures) ∙ not-true _ (c .before .if1 .taken))) (record { gave = c .refused .ensures; left = refl })
 
 used-requires : tie.Need-used-requires
 used-requires c κs = headed-in-order _ (sym (c .before .before .in-order .ensures) ∙ not-false _ (c .before .if1 .left)) .long
@@ -31,7 +31,7 @@ same-length-2 : tie.Need-same-length-2
 same-length-2 c = search needs
 
 returns-2 : tie.Need-returns-2
-returns-2 c = gives-as (cut-6 _ _ (sym (c .before .before .before .before .before .before .before .in-order .ensures) ∙ not-false _ (c .before .before .before .before .before .before .if1 .left)) (rw (c .before .before .before .before .used .ensures) at (c .before .if2 .taken))) (record { gave = c .refused2 .ensures; left = refl })
+returns-2 c = gives-as (cut-6 _ _ _ (sym (c .before .before .before .before .before .before .before .in-order .ensures) ∙ not-false _ (c .before .before .before .before .before .before .if1 .left)) (rw (c .before .before .before .before .used .ensures) at (c .before .if2 .taken))) (record { gave = c .refused2 .ensures; left = refl })
 
 end-by-requires : tie.Need-end-by-requires
 end-by-requires c κs = omega (arith, used-inside _ (headed-in-order _ (sym (c .before .before .before .before .before .before .before .in-order .ensures) ∙ not-false _ (c .before .before .before .before .before .before .if1 .left))), c .before .before .before .before .used .ensures, c .before .if2 .left)
@@ -43,7 +43,7 @@ same-length-3 : tie.Need-same-length-3
 same-length-3 c = search needs
 
 returns-3 : tie.Need-returns-3
-returns-3 c = gives-as (cut-7 _ _ (sym (c .before .before .before .before .before .before .before .before .before .before .in-order .ensures) ∙ not-false _ (c .before .before .before .before .before .before .before .before .before .if1 .left)) (rw (c .before .before .before .before .before .before .before .used .ensures) at (c .before .before .before .before .if2 .left)) (sym (c .before .before .end-by .ensures) ∙ not-true _ (c .before .if3 .taken))) (record { gave = c .refused3 .ensures; left = refl })
+returns-3 c = gives-as (cut-7 _ _ _ (sym (c .before .before .before .before .before .before .before .before .before .before .in-order .ensures) ∙ not-false _ (c .before .before .before .before .before .before .before .before .before .if1 .left)) (rw (c .before .before .before .before .before .before .before .used .ensures) at (c .before .before .before .before .if2 .left)) (sym (c .before .before .end-by .ensures) ∙ not-true _ (c .before .if3 .taken))) (record { gave = c .refused3 .ensures; left = refl })
 
 set-used-requires : tie.Need-set-used-requires
 set-used-requires c κs = headed-in-order _ (sym (c .before .before .before .before .before .before .before .before .before .before .in-order .ensures) ∙ not-false _ (c .before .before .before .before .before .before .before .before .before .if1 .left)) .long
@@ -55,7 +55,7 @@ same-length-4 : tie.Need-same-length-4
 same-length-4 c = search needs
 
 returns-4 : tie.Need-returns-4
-returns-4 c = gives-as (cut-0 _ _ (sym (c .before .before .before .before .before .before .before .before .before .before .before .before .before .before .in-order .ensures) ∙ not-false _ (c .before .before .before .before .before .before .before .before .before .before .before .before .before .if1 .left)) (rw (c .before .before .before .before .before .before .before .before .before .before .before .used .ensures) at (c .before .before .before .before .before .before .before .before .if2 .left)) (sym (c .before .before .before .before .before .before .end-by .ensures) ∙ not-false _ (c .before .before .before .before .before .if3 .left))) (record { gave = c .done .ensures; left = c .before .before .before .set-used .ensures })
+returns-4 c = gives-as (cut-0 _ _ _ (sym (c .before .before .before .before .before .before .before .before .before .before .before .before .before .before .in-order .ensures) ∙ not-false _ (c .before .before .before .before .before .before .before .before .before .before .before .before .before .if1 .left)) (rw (c .before .before .before .before .before .before .before .before .before .before .before .used .ensures) at (c .before .before .before .before .before .before .before .before .if2 .left)) (sym (c .before .before .before .before .before .before .end-by .ensures) ∙ not-false _ (c .before .before .before .before .before .if3 .left))) (record { gave = c .done .ensures; left = c .before .before .before .set-used .ensures })
 
 pub cut-back-spec : {M : Type 1} → statement M
 cut-back-spec =

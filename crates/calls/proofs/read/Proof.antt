@@ -15,7 +15,7 @@ no-record-requires : tie.Need-no-record-requires
 no-record-requires c κs = search needs
 
 returns : tie.Need-returns
-returns c = c .no-record .ensures ∙ sym (read-4 _ _ (sym (c .before .before .in-order .ensures) ∙ not-true _ (c .before .if1 .taken)))
+returns c = c .no-record .ensures ∙ sym (read-4 _ _ _ (sym (c .before .before .in-order .ensures) ∙ not-true _ (c .before .if1 .taken)))
 
 used-requires : tie.Need-used-requires
 used-requires c κs = headed-in-order _ (sym (c .before .in-order .ensures) ∙ not-false _ (c .if1 .left)) .long
@@ -24,7 +24,7 @@ no-record-requires-2 : tie.Need-no-record-requires-2
 no-record-requires-2 c κs = search needs
 
 returns-2 : tie.Need-returns-2
-returns-2 c = c .no-record2 .ensures ∙ sym (read-6 _ _ (sym (c .before .before .before .before .before .before .in-order .ensures) ∙ not-false _ (c .before .before .before .before .before .if1 .left)) (rw (c .before .before .before .before .used .ensures) at (c .before .if2 .taken)))
+returns-2 c = c .no-record2 .ensures ∙ sym (read-6 _ _ _ (sym (c .before .before .before .before .before .before .in-order .ensures) ∙ not-false _ (c .before .before .before .before .before .if1 .left)) (rw (c .before .before .before .before .used .ensures) at (c .before .if2 .taken)))
 
 get-requires : tie.Need-get-requires
 get-requires c κs = omega (arith, used-inside _ (headed-in-order _ (sym (c .before .before .before .before .before .in-order .ensures) ∙ not-false _ (c .before .before .before .before .if1 .left))), c .before .before .before .used .ensures, c .if2 .left)
@@ -36,13 +36,13 @@ no-record-requires-3 : tie.Need-no-record-requires-3
 no-record-requires-3 c κs = search needs
 
 returns-3 : tie.Need-returns-3
-returns-3 c = c .no-record3 .ensures ∙ sym (read-8 _ _ (sym (c .before .before .before .before .before .before .before .before .before .in-order .ensures) ∙ not-false _ (c .before .before .before .before .before .before .before .before .if1 .left)) (rw (c .before .before .before .before .before .before .before .used .ensures) at (c .before .before .before .before .if2 .left)) (rw (c .before .before .before .get .ensures) at (sym (c .before .before .is-readable .ensures) ∙ not-true _ (c .before .if3 .taken))))
+returns-3 c = c .no-record3 .ensures ∙ sym (read-8 _ _ _ (sym (c .before .before .before .before .before .before .before .before .before .in-order .ensures) ∙ not-false _ (c .before .before .before .before .before .before .before .before .if1 .left)) (rw (c .before .before .before .before .before .before .before .used .ensures) at (c .before .before .before .before .if2 .left)) (rw (c .before .before .before .get .ensures) at (sym (c .before .before .is-readable .ensures) ∙ not-true _ (c .before .if3 .taken))))
 
 done-requires : tie.Need-done-requires
 done-requires c κs = search needs
 
 returns-4 : tie.Need-returns-4
-returns-4 c = rw (c .done .ensures, c .before .before .before .get .ensures) (sym (read-0 _ _ (sym (c .before .before .before .before .before .before .before .before .before .in-order .ensures) ∙ not-false _ (c .before .before .before .before .before .before .before .before .if1 .left)) (rw (c .before .before .before .before .before .before .before .used .ensures) at (c .before .before .before .before .if2 .left)) (rw (c .before .before .before .get .ensures) at (sym (c .before .before .is-readable .ensures) ∙ not-false _ (c .before .if3 .left)))))
+returns-4 c = rw (c .done .ensures, c .before .before .before .get .ensures) (sym (read-0 _ _ _ (sym (c .before .before .before .before .before .before .before .before .before .in-order .ensures) ∙ not-false _ (c .before .before .before .before .before .before .before .before .if1 .left)) (rw (c .before .before .before .before .before .before .before .used .ensures) at (c .before .before .before .before .if2 .left)) (rw (c .before .before .before .get .ensures) at (sym (c .before .before .is-readable .ensures) ∙ not-false _ (c .before .if3 .left)))))
 
 pub read-spec : {M : Type 1} → statement M
 read-spec =

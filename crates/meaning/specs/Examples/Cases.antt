@@ -1,4 +1,5 @@
--- The examples of document 01, 'Octets and what they become', and the one of docs/MEANING.md.
+-- The examples of document 01, 'Octets and what they become', and the one of docs/MEANING.md; and tapes of document 02's request 09.
+use mathlib.Core.Bool.{true, false}
 use mathlib.Core.List.{List, [], _∷_, _++_}
 use lib.ListN.{replicate}
 use Rattle.meaning.specs.Examples.Example.{printed, Case, pushAt, refusedPush, walk, onto, mask, push}
@@ -230,12 +231,29 @@ others =
     []
     ) ∷
     -- the second case, pushed behind two records of any words, on a tape with room for four and a word to spare
-    onto (2 ∷ 4 ∷ 6 ∷ 0 ∷ replicate 12 9 ++ replicate 13 7) 0 (0x12 ∷ []) 0 0 2 2
+    onto false (2 ∷ 4 ∷ 6 ∷ 0 ∷ replicate 12 9 ++ replicate 13 7) 0 (0x12 ∷ []) 0 0 2 2
     (4 ∷ 4 ∷ 6 ∷ 0 ∷ replicate 12 9 ++ (1796 ∷ 100 ∷ 100 ∷ 0 ∷ 3 ∷ 3 ∷ 1539 ∷ 100 ∷ 101 ∷ 0 ∷ 0 ∷ 0 ∷ 7 ∷ [])) ∷
     -- registry 6: answer 1
     refusedPush 5 100 6 (0x12 ∷ []) 1 0 ∷
     -- a header that is not in order: answer 4
-    onto (0 ∷ 4 ∷ 5 ∷ 0 ∷ replicate 12 0) 0 (0x12 ∷ []) 4 0 0 0 (0 ∷ 4 ∷ 5 ∷ 0 ∷ replicate 12 0) ∷
+    onto false (0 ∷ 4 ∷ 5 ∷ 0 ∷ replicate 12 0) 0 (0x12 ∷ []) 4 0 0 0 (0 ∷ 4 ∷ 5 ∷ 0 ∷ replicate 12 0) ∷
     -- two records needed, and room for one behind two: answer 5
-    onto (2 ∷ 4 ∷ 6 ∷ 0 ∷ replicate 18 9) 0 (0x12 ∷ []) 5 0 0 2 (2 ∷ 4 ∷ 6 ∷ 0 ∷ replicate 18 9) ∷
+    onto false (2 ∷ 4 ∷ 6 ∷ 0 ∷ replicate 18 9) 0 (0x12 ∷ []) 5 0 0 2 (2 ∷ 4 ∷ 6 ∷ 0 ∷ replicate 18 9) ∷
+    []
+
+-- on tapes of the slim layout: words worked out by hand
+unfoldable pub slimCases : List Case
+slimCases =
+    -- the second case, pushed behind two records of any words, on a tape with room for five and a word to spare
+    onto true (2 ∷ 4 ∷ 4 ∷ 0 ∷ replicate 8 9 ++ replicate 13 7) 0 (0x12 ∷ []) 0 0 2 2
+    (4 ∷ 4 ∷ 4 ∷ 0 ∷ replicate 8 9 ++ (
+    1796 ∷ 429496729700 ∷ 0 ∷ 12884901891 ∷
+    1539 ∷ 433791696996 ∷ 0 ∷ 0 ∷
+    []
+    ) ++ replicate 5 7) ∷
+    -- 4: a usual header for the slim call, a slim header for the usual one
+    onto true (0 ∷ 4 ∷ 6 ∷ 0 ∷ replicate 12 0) 0 (0x12 ∷ []) 4 0 0 0 (0 ∷ 4 ∷ 6 ∷ 0 ∷ replicate 12 0) ∷
+    onto false (0 ∷ 4 ∷ 4 ∷ 0 ∷ replicate 12 0) 0 (0x12 ∷ []) 4 0 0 0 (0 ∷ 4 ∷ 4 ∷ 0 ∷ replicate 12 0) ∷
+    -- 5: two records are needed, and there is room for one, with three words over
+    onto true (2 ∷ 4 ∷ 4 ∷ 0 ∷ replicate 15 9) 0 (0x12 ∷ []) 5 0 0 2 (2 ∷ 4 ∷ 4 ∷ 0 ∷ replicate 15 9) ∷
     []

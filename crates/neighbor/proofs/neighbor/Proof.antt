@@ -12,8 +12,8 @@ use borrow.Author.Needs.{needs}
 use Rattle.neighbor.proofs.neighbor.Statement.{statement}
 use Rattle.neighbor.proofs.neighbor.Tie as tie
 
-cast-t7 : tie.Need-cast-t7
-cast-t7 c = search needs
+cast-t8 : tie.Need-cast-t8
+cast-t8 c = search needs
 
 one-number32-requires : tie.Need-one-number32-requires
 one-number32-requires c κs = search needs
@@ -183,7 +183,7 @@ pub neighbor-spec : {M : Type 1} → statement M
 neighbor-spec =
     tie.close
     (tie.spec
-    cast-t7
+    cast-t8
     one-number32-requires
     link-identifiers-requires
     ipv4-requires

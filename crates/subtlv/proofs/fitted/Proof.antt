@@ -7,6 +7,8 @@ use Rattle.outcome.specs.Call.{noRoom}
 use Rattle.outcome.specs.CallLaws.{gives-as}
 use Rattle.registry.specs.Registry.{numberOf}
 use Rattle.tape.specs.Tape.{used, room}
+use lib.ListN.{length}
+use Rattle.tape.specs.LayoutLaws.{room-few}
 use Rattle.tape.specs.HeaderLaws.{headed-in-order}
 use Rattle.tape.specs.Forest.{size}
 use Rattle.meaning.specs.Frame.{covered}
@@ -20,14 +22,14 @@ use Rattle.subtlv.proofs.fitted.Tie as tie
 used-requires : tie.Need-used-requires
 used-requires c κs = let x = headed-in-order (c .before .before .before .args .tape .now) (c .before .before .before .pre .2) in x .long
 
-sub-free : tie.Need-sub-free
-sub-free c = let x = headed-in-order (c .before .before .before .before .args .tape .now) (c .before .before .before .before .pre .2) in x .long
+room-of-requires : tie.Need-room-of-requires
+room-of-requires c κs = let x = headed-in-order (c .before .before .before .before .args .tape .now) (c .before .before .before .before .pre .2) in x .long
 
-sub-free-2 : tie.Need-sub-free-2
-sub-free-2 c = let x = headed-in-order (c .before .before .before .before .before .args .tape .now) (c .before .before .before .before .before .pre .2) in omega (arith, x .fits, c .before .used .ensures)
+sub-free : tie.Need-sub-free
+sub-free c = let x = headed-in-order (c .before .before .before .before .before .before .args .tape .now) (c .before .before .before .before .before .before .pre .2) in omega (arith, x .fits, c .before .before .used .ensures, c .before .room-of .ensures)
 
 mul-if1 : tie.Need-mul-if1
-mul-if1 c = search needs
+mul-if1 c = let g = c .before .before .before .before .before .before .args in omega (arith, room-few (g .slim) (length (g .tape .now)), c .before .room-of .ensures)
 
 mul-if1-2 : tie.Need-mul-if1-2
 mul-if1-2 c = search needs
@@ -42,24 +44,38 @@ same-length : tie.Need-same-length
 same-length c = search needs
 
 returns : tie.Need-returns
-returns c = let g = c .before .before .before .before .before .before .before .before .before .args in let trees = shownBy (g .call) (numberOf (g .registry)) (g .area .now) (g .base .0) in gives-as (fitted-5 (covered (g .area .now)) trees (g .tape .now) (omega (arith, c .before .before .count .ensures, c .before .before .before .before .before .used .ensures))) (record { gave = c .no-room .ensures ∙ ap (λ (n : ℕ). noRoom n) (c .before .before .count .ensures); left = refl })
+returns c =
+    let g = c .before .before .before .before .before .before .before .before .before .before .args in
+    let trees = shownBy (g .call) (numberOf (g .registry)) (g .area .now) (g .base .0) in
+    gives-as (fitted-5 (g .slim) (covered (g .area .now)) trees (g .tape .now) (omega (arith, c .before .before .count .ensures, c .before .before .before .before .before .before .used .ensures, c .before .before .before .before .before .room-of .ensures)))
+    (record { gave = c .no-room .ensures ∙ ap (λ (n : ℕ). noRoom n) (c .before .before .count .ensures); left = refl })
 
 append-requires : tie.Need-append-requires
-append-requires c κs = let g = c .before .before .before .before .before .before .before .args in let trees = shownBy (g .call) (numberOf (g .registry)) (g .area .now) (g .base .0) in let fits : size trees ≤ room (g .tape .now) - used (g .tape .now) = ⊎-elim (λ w. omega (arith, w .1 .ensures, w .2 .left, c .before .before .before .used .ensures)) (λ w. omega (arith, w .left, most (g .call) (numberOf (g .registry)) (g .area .now) (g .base .0), c .before .before .before .used .ensures)) (c .before .if1 .came) in (c .before .before .before .before .before .before .before .pre .0, c .before .before .before .before .before .before .before .pre .1, c .before .before .before .before .before .before .before .pre .2, fits)
+append-requires c κs =
+    let g = c .before .before .before .before .before .before .before .before .args in
+    let trees = shownBy (g .call) (numberOf (g .registry)) (g .area .now) (g .base .0) in
+    let fits : size trees ≤ room (g .slim) (g .tape .now) - used (g .tape .now) =
+    ⊎-elim (λ w. omega (arith, w .1 .ensures, w .2 .left, c .before .before .before .before .used .ensures, c .before .before .before .room-of .ensures)) (λ w. omega (arith, w .left, most (g .call) (numberOf (g .registry)) (g .area .now) (g .base .0), c .before .before .before .before .used .ensures, c .before .before .before .room-of .ensures)) (c .before .if1 .came) in
+    (c .before .before .before .before .before .before .before .before .pre .0, c .before .before .before .before .before .before .before .before .pre .1, c .before .before .before .before .before .before .before .before .pre .2, fits)
 
 same-length-2 : tie.Need-same-length-2
 same-length-2 c = search needs
 
 returns-2 : tie.Need-returns-2
-returns-2 c = let g = c .before .before .before .before .before .before .before .before .before .before .args in let trees = shownBy (g .call) (numberOf (g .registry)) (g .area .now) (g .base .0) in let fits : size trees ≤ room (g .tape .now) - used (g .tape .now) = ⊎-elim (λ w. omega (arith, w .1 .ensures, w .2 .left, c .before .before .before .before .before .before .used .ensures)) (λ w. omega (arith, w .left, most (g .call) (numberOf (g .registry)) (g .area .now) (g .base .0), c .before .before .before .before .before .before .used .ensures)) (c .before .before .before .before .if1 .came) in gives-as (fitted-0 (covered (g .area .now)) trees (g .tape .now) fits) (c .before .before .append .ensures)
+returns-2 c =
+    let g = c .before .before .before .before .before .before .before .before .before .before .before .args in
+    let trees = shownBy (g .call) (numberOf (g .registry)) (g .area .now) (g .base .0) in
+    let fits : size trees ≤ room (g .slim) (g .tape .now) - used (g .tape .now) =
+    ⊎-elim (λ w. omega (arith, w .1 .ensures, w .2 .left, c .before .before .before .before .before .before .before .used .ensures, c .before .before .before .before .before .before .room-of .ensures)) (λ w. omega (arith, w .left, most (g .call) (numberOf (g .registry)) (g .area .now) (g .base .0), c .before .before .before .before .before .before .before .used .ensures, c .before .before .before .before .before .before .room-of .ensures)) (c .before .before .before .before .if1 .came) in
+    gives-as (fitted-0 (g .slim) (covered (g .area .now)) trees (g .tape .now) fits) (c .before .before .append .ensures)
 
 pub fitted-spec : {M : Type 1} → statement M
 fitted-spec =
     tie.close
     (tie.spec
     used-requires
+    room-of-requires
     sub-free
-    sub-free-2
     mul-if1
     mul-if1-2
     count-requires

@@ -3,6 +3,8 @@ use mathlib.Core.Path.{_≡_, refl, sym, _∙_}
 use native.Mathlib.Omega.{arith}
 use borrow.Author.Needs.{needs}
 use borrow.Author.Tests.{not-true, not-false}
+use lib.ListN.{length}
+use Rattle.tape.specs.LayoutLaws.{room-low}
 use Rattle.calls.specs.Nest.{trees}
 use Rattle.calls.specs.NestLaws.{Ends, container-ends, trees-none, too-deep, bad-container, bad-children, past-container, bad-leaf, past-leaf}
 use Prim.Native.Nat.{ℕ, _-_, _<_}
@@ -19,7 +21,7 @@ use Rattle.calls.proofs.nest.+split.{statement}
 use Rattle.calls.proofs.nest.+split.Tie.{close}
 
 abbrev μ-split : Measures 1 split-kinds.ps ℕ
-μ-split κs a = a .1 .0
+μ-split κs a = a .1 .1 .0
 
 abbrev split-at : ℕ → In 1 split-kinds.ps
 split-at t = and 1 split-kinds.ps (is 1 split-kinds.ps μ-split t) split.Pre
@@ -42,10 +44,10 @@ callees t = (
 )
 
 abbrev split-Inv-loop : split-lts.InvT-loop
-split-Inv-loop tape depth end at₀ at = trees tape depth at (end .0) ≡ trees tape depth at₀ (end .0)
+split-Inv-loop tape slim depth end at₀ at = trees slim tape depth at (end .0) ≡ trees slim tape depth at₀ (end .0)
 
 abbrev split-μ-loop : split-lts.MeasureT-loop
-split-μ-loop tape depth end at₀ at = end .0 - at
+split-μ-loop tape slim depth end at₀ at = end .0 - at
 
 split-loop-holds : (t : ℕ) → split-lts.Need-loop-holds (callees t) (split-at t) split.Post split-Inv-loop split-μ-loop
 split-loop-holds t c = refl
@@ -57,13 +59,13 @@ split-holds-others-requires : (t : ℕ) → split-lts.Need-holds-others-requires
 split-holds-others-requires t c κs = search needs
 
 split-returns : (t : ℕ) → split-lts.Need-returns (callees t) (split-at t) split.Post split-Inv-loop split-μ-loop
-split-returns t c = too-deep _ _ _ _ (c .before .before .before .before .if1 .taken) (rw (c .before .before .before .get .ensures) at (sym (c .before .before .holds-others .ensures) ∙ c .before .if2 .taken)) (c .if3 .taken) ∙ c .before .before .before .before .before .before .loop .inv
+split-returns t c = too-deep _ _ _ _ _ (c .before .before .before .before .if1 .taken) (rw (c .before .before .before .get .ensures) at (sym (c .before .before .holds-others .ensures) ∙ c .before .if2 .taken)) (c .if3 .taken) ∙ c .before .before .before .before .before .before .loop .inv
 
 split-is-container-requires : (t : ℕ) → split-lts.Need-is-container-requires (callees t) (split-at t) split.Post split-Inv-loop split-μ-loop
-split-is-container-requires t c κs = omega arith
+split-is-container-requires t c κs = let g = c .before .before .before .before .before .before .before .before in omega (arith, room-low (g .args .slim) (length (g .args .tape .now)), g .pre .1)
 
 split-returns-2 : (t : ℕ) → split-lts.Need-returns-2 (callees t) (split-at t) split.Post split-Inv-loop split-μ-loop
-split-returns-2 t c = bad-container _ _ _ _ (c .before .before .before .before .before .before .if1 .taken) (rw (c .before .before .before .before .before .get .ensures) at (sym (c .before .before .before .before .holds-others .ensures) ∙ c .before .before .before .if2 .taken)) (c .before .before .if3 .left) (rw (c .before .before .before .before .before .get .ensures) at (sym (c .before .is-container .ensures) ∙ not-true _ (c .if4 .taken))) ∙ c .before .before .before .before .before .before .before .before .loop .inv
+split-returns-2 t c = bad-container _ _ _ _ _ (c .before .before .before .before .before .before .if1 .taken) (rw (c .before .before .before .before .before .get .ensures) at (sym (c .before .before .before .before .holds-others .ensures) ∙ c .before .before .before .if2 .taken)) (c .before .before .if3 .left) (rw (c .before .before .before .before .before .get .ensures) at (sym (c .before .is-container .ensures) ∙ not-true _ (c .if4 .taken))) ∙ c .before .before .before .before .before .before .before .before .loop .inv
 
 -- the container's children end inside its parent
 ends : (t : ℕ) (c : split-lts.Else4 (callees t) (split-at t) split.Post split-Inv-loop split-μ-loop) → Ends (c .before .before .before .before .before .get .result) (c .before .before .before .before .before .before .before .before .loop .at) (c .before .before .before .before .before .before .before .before .before .before .args .end .0)
@@ -72,26 +74,26 @@ ends t c = container-ends _ _ _ (sym (c .before .is-container .ensures) ∙ not-
 split-sub-split : (t : ℕ) → split-lts.Need-sub-split (callees t) (split-at t) split.Post split-Inv-loop split-μ-loop
 split-sub-split t c = omega arith
 
-split-add-t15 : (t : ℕ) → split-lts.Need-add-t15 (callees t) (split-at t) split.Post split-Inv-loop split-μ-loop
-split-add-t15 t c = omega arith
+split-add-t16 : (t : ℕ) → split-lts.Need-add-t16 (callees t) (split-at t) split.Post split-Inv-loop split-μ-loop
+split-add-t16 t c = omega arith
 
 split-split-requires : (t : ℕ) → split-lts.Need-split-requires (callees t) (split-at t) split.Post split-Inv-loop split-μ-loop
 split-split-requires t c κs = let e = ends t c in (omega arith, omega arith)
 
 split-returns-3 : (t : ℕ) → split-lts.Need-returns-3 (callees t) (split-at t) split.Post split-Inv-loop split-μ-loop
-split-returns-3 t c = bad-children _ _ _ _ (c .before .before .before .before .before .before .before .before .if1 .taken) (rw (c .before .before .before .before .before .before .before .get .ensures) at (sym (c .before .before .before .before .before .before .holds-others .ensures) ∙ c .before .before .before .before .before .if2 .taken)) (c .before .before .before .before .if3 .left) (rw (c .before .before .before .before .before .before .before .get .ensures) at (sym (c .before .before .before .is-container .ensures) ∙ not-false _ (c .before .before .if4 .left))) (rw (c .before .before .before .before .before .before .before .get .ensures) at (sym (c .before .split .ensures) ∙ not-true _ (c .if5 .taken))) ∙ c .before .before .before .before .before .before .before .before .before .before .loop .inv
+split-returns-3 t c = bad-children _ _ _ _ _ (c .before .before .before .before .before .before .before .before .if1 .taken) (rw (c .before .before .before .before .before .before .before .get .ensures) at (sym (c .before .before .before .before .before .before .holds-others .ensures) ∙ c .before .before .before .before .before .if2 .taken)) (c .before .before .before .before .if3 .left) (rw (c .before .before .before .before .before .before .before .get .ensures) at (sym (c .before .before .before .is-container .ensures) ∙ not-false _ (c .before .before .if4 .left))) (rw (c .before .before .before .before .before .before .before .get .ensures) at (sym (c .before .split .ensures) ∙ not-true _ (c .if5 .taken))) ∙ c .before .before .before .before .before .before .before .before .before .before .loop .inv
 
 split-loop-less : (t : ℕ) → split-lts.Need-loop-less (callees t) (split-at t) split.Post split-Inv-loop split-μ-loop
 split-loop-less t c = let e = ends t (c .before .before) in omega arith
 
 split-loop-again : (t : ℕ) → split-lts.Need-loop-again (callees t) (split-at t) split.Post split-Inv-loop split-μ-loop
-split-loop-again t c = rw (c .before .before .before .before .before .before .before .get .ensures) (past-container _ _ _ _ (c .before .before .before .before .before .before .before .before .if1 .taken) (rw (c .before .before .before .before .before .before .before .get .ensures) at (sym (c .before .before .before .before .before .before .holds-others .ensures) ∙ c .before .before .before .before .before .if2 .taken)) (c .before .before .before .before .if3 .left) (rw (c .before .before .before .before .before .before .before .get .ensures) at (sym (c .before .before .before .is-container .ensures) ∙ not-false _ (c .before .before .if4 .left))) (rw (c .before .before .before .before .before .before .before .get .ensures) at (sym (c .before .split .ensures) ∙ not-false _ (c .if5 .left))) ∙ c .before .before .before .before .before .before .before .before .before .before .loop .inv)
+split-loop-again t c = rw (c .before .before .before .before .before .before .before .get .ensures) (past-container _ _ _ _ _ (c .before .before .before .before .before .before .before .before .if1 .taken) (rw (c .before .before .before .before .before .before .before .get .ensures) at (sym (c .before .before .before .before .before .before .holds-others .ensures) ∙ c .before .before .before .before .before .if2 .taken)) (c .before .before .before .before .if3 .left) (rw (c .before .before .before .before .before .before .before .get .ensures) at (sym (c .before .before .before .is-container .ensures) ∙ not-false _ (c .before .before .if4 .left))) (rw (c .before .before .before .before .before .before .before .get .ensures) at (sym (c .before .split .ensures) ∙ not-false _ (c .if5 .left))) ∙ c .before .before .before .before .before .before .before .before .before .before .loop .inv)
 
 split-is-leaf-requires : (t : ℕ) → split-lts.Need-is-leaf-requires (callees t) (split-at t) split.Post split-Inv-loop split-μ-loop
 split-is-leaf-requires t c κs = search needs
 
 split-returns-4 : (t : ℕ) → split-lts.Need-returns-4 (callees t) (split-at t) split.Post split-Inv-loop split-μ-loop
-split-returns-4 t c = bad-leaf _ _ _ _ (c .before .before .before .before .before .if1 .taken) (rw (c .before .before .before .before .get .ensures) at (sym (c .before .before .before .holds-others .ensures) ∙ c .before .before .if2 .left)) (rw (c .before .before .before .before .get .ensures) at (sym (c .before .is-leaf .ensures) ∙ not-true _ (c .if6 .taken))) ∙ c .before .before .before .before .before .before .before .loop .inv
+split-returns-4 t c = bad-leaf _ _ _ _ _ (c .before .before .before .before .before .if1 .taken) (rw (c .before .before .before .before .get .ensures) at (sym (c .before .before .before .holds-others .ensures) ∙ c .before .before .if2 .left)) (rw (c .before .before .before .before .get .ensures) at (sym (c .before .is-leaf .ensures) ∙ not-true _ (c .if6 .taken))) ∙ c .before .before .before .before .before .before .before .loop .inv
 
 split-add-at : (t : ℕ) → split-lts.Need-add-at (callees t) (split-at t) split.Post split-Inv-loop split-μ-loop
 split-add-at t c = omega arith
@@ -100,10 +102,10 @@ split-loop-less-2 : (t : ℕ) → split-lts.Need-loop-less-2 (callees t) (split-
 split-loop-less-2 t c = omega arith
 
 split-loop-again-2 : (t : ℕ) → split-lts.Need-loop-again-2 (callees t) (split-at t) split.Post split-Inv-loop split-μ-loop
-split-loop-again-2 t c = past-leaf _ _ _ _ (c .before .before .before .before .before .if1 .taken) (rw (c .before .before .before .before .get .ensures) at (sym (c .before .before .before .holds-others .ensures) ∙ c .before .before .if2 .left)) (rw (c .before .before .before .before .get .ensures) at (sym (c .before .is-leaf .ensures) ∙ not-false _ (c .if6 .left))) ∙ c .before .before .before .before .before .before .before .loop .inv
+split-loop-again-2 t c = past-leaf _ _ _ _ _ (c .before .before .before .before .before .if1 .taken) (rw (c .before .before .before .before .get .ensures) at (sym (c .before .before .before .holds-others .ensures) ∙ c .before .before .if2 .left)) (rw (c .before .before .before .before .get .ensures) at (sym (c .before .is-leaf .ensures) ∙ not-false _ (c .if6 .left))) ∙ c .before .before .before .before .before .before .before .loop .inv
 
 split-returns-5 : (t : ℕ) → split-lts.Need-returns-5 (callees t) (split-at t) split.Post split-Inv-loop split-μ-loop
-split-returns-5 t c = sym (trees-none _ _ _ _ (c .if1 .left)) ∙ c .before .before .loop .inv
+split-returns-5 t c = sym (trees-none _ _ _ _ _ (c .if1 .left)) ∙ c .before .before .loop .inv
 
 pub +split-spec : {M : Type 1} → statement M
 +split-spec = close μ-split λ t. split-lts.spec
@@ -119,7 +121,7 @@ pub +split-spec : {M : Type 1} → statement M
     (split-is-container-requires t)
     (split-returns-2 t)
     (split-sub-split t)
-    (split-add-t15 t)
+    (split-add-t16 t)
     (split-split-requires t)
     (split-returns-3 t)
     (split-loop-less t)

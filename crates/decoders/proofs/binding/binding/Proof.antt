@@ -5,8 +5,8 @@ use borrow.Author.Needs.{needs}
 use Rattle.decoders.proofs.binding.binding.Statement.{statement}
 use Rattle.decoders.proofs.binding.binding.Tie as tie
 
-cast-t7 : tie.Need-cast-t7
-cast-t7 c = search needs
+cast-t8 : tie.Need-cast-t8
+cast-t8 c = search needs
 
 sid-label-requires : tie.Need-sid-label-requires
 sid-label-requires c κs = search needs
@@ -25,7 +25,7 @@ pub binding-spec : {M : Type 1} → statement M
 binding-spec =
     tie.close
     (tie.spec
-    cast-t7
+    cast-t8
     sid-label-requires
     same-length
     returns

@@ -14,8 +14,8 @@ use borrow.Author.Needs.{needs}
 use Rattle.decoders.proofs.prefix.prefix.Statement.{statement}
 use Rattle.decoders.proofs.prefix.prefix.Tie as tie
 
-cast-t7 : tie.Need-cast-t7
-cast-t7 c = search needs
+cast-t8 : tie.Need-cast-t8
+cast-t8 c = search needs
 
 tags-requires : tie.Need-tags-requires
 tags-requires c κs = search needs
@@ -74,7 +74,7 @@ pub prefix-spec : {M : Type 1} → statement M
 prefix-spec =
     tie.close
     (tie.spec
-    cast-t7
+    cast-t8
     tags-requires
     tags-requires-2
     prefix-attributes-requires

@@ -39,8 +39,8 @@ part-ranges-end c = search needs
 ranges-requires : tie.Need-ranges-requires
 ranges-requires c κs = let v = c .before .before .before .before .before .before .before .before .before .before .args .value .now in rw (part-rest 1 v) (omega (arith, length-drop 1 v, c .before .before .before .before .before .number8 .ensures .place))
 
-add-t15 : tie.Need-add-t15
-add-t15 c = let v = c .before .before .before .before .before .before .before .before .before .before .before .before .before .before .args .value .now in omega (arith, (rw (part-rest 1 v) at (c .before .before .before .ranges .ensures)) .covers, total-le rangeLength range-fits (drop 1 v), length-drop 1 v)
+add-t16 : tie.Need-add-t16
+add-t16 c = let v = c .before .before .before .before .before .before .before .before .before .before .before .before .before .before .args .value .now in omega (arith, (rw (part-rest 1 v) at (c .before .before .before .ranges .ensures)) .covers, total-le rangeLength range-fits (drop 1 v), length-drop 1 v)
 
 same-length : tie.Need-same-length
 same-length c = search needs
@@ -59,6 +59,6 @@ flags-and-ranges-spec =
     part-ranges-start
     part-ranges-end
     ranges-requires
-    add-t15
+    add-t16
     same-length
     returns-2)

@@ -15,8 +15,8 @@ use borrow.Author.Needs.{needs}
 use Rattle.decoders.proofs.router_capability.router_capability.Statement.{statement}
 use Rattle.decoders.proofs.router_capability.router_capability.Tie as tie
 
-cast-t7 : tie.Need-cast-t7
-cast-t7 c = search needs
+cast-t8 : tie.Need-cast-t8
+cast-t8 c = search needs
 
 flags-and-ranges-requires : tie.Need-flags-and-ranges-requires
 flags-and-ranges-requires c κs = search needs
@@ -83,7 +83,7 @@ pub router-capability-spec : {M : Type 1} → statement M
 router-capability-spec =
     tie.close
     (tie.spec
-    cast-t7
+    cast-t8
     flags-and-ranges-requires
     ipv4-requires
     ipv6-requires

@@ -5,8 +5,8 @@ use borrow.Author.Needs.{needs}
 use Rattle.decoders.proofs.srv6_sid.srv6_sid.Statement.{statement}
 use Rattle.decoders.proofs.srv6_sid.srv6_sid.Tie as tie
 
-cast-t7 : tie.Need-cast-t7
-cast-t7 c = search needs
+cast-t8 : tie.Need-cast-t8
+cast-t8 c = search needs
 
 sid-structure-requires : tie.Need-sid-structure-requires
 sid-structure-requires c κs = search needs
@@ -22,4 +22,4 @@ unfolding table
 returns-2 c = let g = c .before .before .before .args in let v = g .value .now in let r = c .match .rest in of-unknown 4 (g .kind) v (g .base .0) (r .1, tt)
 
 pub srv6-sid-spec : {M : Type 1} → statement M
-srv6-sid-spec = tie.close (tie.spec cast-t7 sid-structure-requires same-length returns returns-2)
+srv6-sid-spec = tie.close (tie.spec cast-t8 sid-structure-requires same-length returns returns-2)

@@ -4,8 +4,8 @@ use borrow.Author.Needs.{needs}
 use Rattle.fields.proofs.array.msd.Statement.{statement}
 use Rattle.fields.proofs.array.msd.Tie as tie
 
-add-t8 : tie.Need-add-t8
-add-t8 c = search needs
+add-t9 : tie.Need-add-t9
+add-t9 c = search needs
 
 number8-requires : tie.Need-number8-requires
 number8-requires c κs = search needs
@@ -25,4 +25,4 @@ returns c = msd-made _ _ _ (c .before .before .before .before .before .before .b
 pub msd-spec : {M : Type 1} → statement M
 msd-spec =
     tie.close
-    (tie.spec add-t8 number8-requires number8-requires-2 container-requires same-length returns)
+    (tie.spec add-t9 number8-requires number8-requires-2 container-requires same-length returns)

@@ -16,13 +16,13 @@ use Rattle.fields.proofs.array.msds.Statement.{statement}
 use Rattle.fields.proofs.array.msds.Tie as tie
 
 abbrev Inv-loop : tie.InvT-loop
-Inv-loop octets source tape₀ position n registry base at₀ next₀ tape at next = Cutting (whole 2) (elementTrees msds (source .registry)) (source .base .0) octets tape₀ tape (position .0 + 1) at (next .0) × (next .0 ≤ position .0 + 1 + 3 * at)
+Inv-loop octets source tape₀ slim position n registry base at₀ next₀ tape at next = Cutting slim (whole 2) (elementTrees msds (source .registry)) (source .base .0) octets tape₀ tape (position .0 + 1) at (next .0) × (next .0 ≤ position .0 + 1 + 3 * at)
 
 abbrev μ-loop : tie.MeasureT-loop
-μ-loop octets source tape₀ position n registry base at₀ next₀ tape at next = length octets - at
+μ-loop octets source tape₀ slim position n registry base at₀ next₀ tape at next = length octets - at
 
-add-t11 : tie.Need-add-t11 Inv-loop μ-loop
-add-t11 c = omega arith
+add-t12 : tie.Need-add-t12 Inv-loop μ-loop
+add-t12 c = omega arith
 
 loop-holds : tie.Need-loop-holds Inv-loop μ-loop
 loop-holds c = (cutting-start _ _ _ _ _ _, omega arith)
@@ -73,7 +73,7 @@ msds-spec =
     (tie.spec
     Inv-loop
     μ-loop
-    add-t11
+    add-t12
     loop-holds
     sub-loop
     add-msd

@@ -13,13 +13,13 @@ use Rattle.fields.proofs.array.numbers.Statement.{statement}
 use Rattle.fields.proofs.array.numbers.Tie as tie
 
 abbrev Inv-loop : tie.InvT-loop
-Inv-loop octets source array label shape width tape₀ position n at₀ next₀ tape at next = Cutting (whole width) (numberTrees label shape width (source .registry)) (source .base .0) octets tape₀ tape (position .0 + 1) at (next .0) × (next .0 ≤ position .0 + 1 + 3 * at)
+Inv-loop octets source array label shape width tape₀ slim position n at₀ next₀ tape at next = Cutting slim (whole width) (numberTrees label shape width (source .registry)) (source .base .0) octets tape₀ tape (position .0 + 1) at (next .0) × (next .0 ≤ position .0 + 1 + 3 * at)
 
 abbrev μ-loop : tie.MeasureT-loop
-μ-loop octets source array label shape width tape₀ position n at₀ next₀ tape at next = length octets - at
+μ-loop octets source array label shape width tape₀ slim position n at₀ next₀ tape at next = length octets - at
 
-add-t12 : tie.Need-add-t12 Inv-loop μ-loop
-add-t12 c = omega arith
+add-t13 : tie.Need-add-t13 Inv-loop μ-loop
+add-t13 c = omega arith
 
 loop-holds : tie.Need-loop-holds Inv-loop μ-loop
 loop-holds c = (cutting-start _ _ _ _ _ _, omega arith)
@@ -54,7 +54,7 @@ numbers-spec =
     (tie.spec
     Inv-loop
     μ-loop
-    add-t12
+    add-t13
     loop-holds
     sub-loop
     number-requires

@@ -4,8 +4,8 @@ use borrow.Author.Needs.{needs}
 use Rattle.fields.proofs.array.range.Statement.{statement}
 use Rattle.fields.proofs.array.range.Tie as tie
 
-add-t10 : tie.Need-add-t10
-add-t10 c = search needs
+add-t11 : tie.Need-add-t11
+add-t11 c = search needs
 
 number24-requires : tie.Need-number24-requires
 number24-requires c κs = search needs
@@ -25,4 +25,4 @@ returns c = range-made _ _ _ (c .before .before .before .before .before .before 
 pub range-spec : {M : Type 1} → statement M
 range-spec =
     tie.close
-    (tie.spec add-t10 number24-requires sid-requires container-requires same-length returns)
+    (tie.spec add-t11 number24-requires sid-requires container-requires same-length returns)

@@ -16,13 +16,13 @@ use Rattle.fields.proofs.array.ranges.Statement.{statement}
 use Rattle.fields.proofs.array.ranges.Tie as tie
 
 abbrev Inv-loop : tie.InvT-loop
-Inv-loop octets source tape₀ position registry base at₀ next₀ length₀ tape at next length = Cutting rangeLength (elementTrees ranges (source .registry)) (source .base .0) octets tape₀ tape (position .0 + 1) at (next .0) × (next .0 ≤ position .0 + 1 + 3 * at) × (length ≡ rangeLength (drop at octets)) × (at + length ≤ ListN.length octets)
+Inv-loop octets source tape₀ slim position registry base at₀ next₀ length₀ tape at next length = Cutting slim rangeLength (elementTrees ranges (source .registry)) (source .base .0) octets tape₀ tape (position .0 + 1) at (next .0) × (next .0 ≤ position .0 + 1 + 3 * at) × (length ≡ rangeLength (drop at octets)) × (at + length ≤ ListN.length octets)
 
 abbrev μ-loop : tie.MeasureT-loop
-μ-loop octets source tape₀ position registry base at₀ next₀ length₀ tape at next length = ListN.length octets - at
+μ-loop octets source tape₀ slim position registry base at₀ next₀ length₀ tape at next length = ListN.length octets - at
 
-add-t11 : tie.Need-add-t11 Inv-loop μ-loop
-add-t11 c = omega arith
+add-t12 : tie.Need-add-t12 Inv-loop μ-loop
+add-t12 c = omega arith
 
 range-length-requires : tie.Need-range-length-requires Inv-loop μ-loop
 range-length-requires c κs = omega arith
@@ -75,7 +75,7 @@ ranges-spec =
     (tie.spec
     Inv-loop
     μ-loop
-    add-t11
+    add-t12
     range-length-requires
     loop-holds
     add-range

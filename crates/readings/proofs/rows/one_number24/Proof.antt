@@ -15,8 +15,8 @@ returns c = rw (lt-leb _ _ (c .if1 .taken)) reads-nothing
 number24-requires : tie.Need-number24-requires
 number24-requires c κs = search needs
 
-add-t8 : tie.Need-add-t8
-add-t8 c = search needs
+add-t9 : tie.Need-add-t9
+add-t9 c = search needs
 
 same-length : tie.Need-same-length
 same-length c = search needs
@@ -26,4 +26,4 @@ returns-2 c = rw (le-leb _ _ (c .before .before .before .before .if1 .left)) (re
 
 pub one-number24-spec : {M : Type 1} → statement M
 one-number24-spec =
-    tie.close (tie.spec add-if1 returns number24-requires add-t8 same-length returns-2)
+    tie.close (tie.spec add-if1 returns number24-requires add-t9 same-length returns-2)

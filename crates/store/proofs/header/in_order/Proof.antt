@@ -1,4 +1,3 @@
--- One return for each test.
 use mathlib.Core.Path.{refl}
 use borrow.Author.Tests.{le-leb, lt-leb, eq-eqb, ne-eqb}
 use Rattle.tape.specs.Tape.{headed}
@@ -20,26 +19,29 @@ returns-2 c = rw (le-leb _ _ (c .before .before .if1 .left), ne-eqb _ _ (c .if2 
 shared-slice-read-if3 : tie.Need-shared-slice-read-if3
 shared-slice-read-if3 c = search needs
 
+width-requires : tie.Need-width-requires
+width-requires c κs = search needs
+
 returns-3 : tie.Need-returns-3
 unfolding headed
-returns-3 c = rw (le-leb _ _ (c .before .before .before .before .if1 .left), eq-eqb _ _ (c .before .before .if2 .left), ne-eqb _ _ (c .if3 .taken)) refl
+returns-3 c = rw (le-leb _ _ (c .before .before .before .before .before .if1 .left), eq-eqb _ _ (c .before .before .before .if2 .left), ne-eqb _ _ (rw (c .before .width .ensures .0) at (c .if3 .taken))) refl
 
 shared-slice-read-if4 : tie.Need-shared-slice-read-if4
 shared-slice-read-if4 c = search needs
 
 returns-4 : tie.Need-returns-4
 unfolding headed
-returns-4 c = rw (le-leb _ _ (c .before .before .before .before .before .before .if1 .left), eq-eqb _ _ (c .before .before .before .before .if2 .left), eq-eqb _ _ (c .before .before .if3 .left), ne-eqb _ _ (c .if4 .taken)) refl
+returns-4 c = rw (le-leb _ _ (c .before .before .before .before .before .before .before .if1 .left), eq-eqb _ _ (c .before .before .before .before .before .if2 .left), eq-eqb _ _ (rw (c .before .before .before .width .ensures .0) at (c .before .before .if3 .left)), ne-eqb _ _ (c .if4 .taken)) refl
 
 shared-slice-read-result : tie.Need-shared-slice-read-result
 shared-slice-read-result c = search needs
 
-sub-result : tie.Need-sub-result
-sub-result c = search needs
+room-of-requires : tie.Need-room-of-requires
+room-of-requires c κs = search needs
 
 returns-5 : tie.Need-returns-5
 unfolding headed
-returns-5 c = rw (le-leb _ _ (c .before .before .before .before .before .before .before .if1 .left), eq-eqb _ _ (c .before .before .before .before .before .if2 .left), eq-eqb _ _ (c .before .before .before .if3 .left), eq-eqb _ _ (c .before .if4 .left)) refl
+returns-5 c = rw (le-leb _ _ (c .before .before .before .before .before .before .before .before .before .if1 .left), eq-eqb _ _ (c .before .before .before .before .before .before .before .if2 .left), eq-eqb _ _ (rw (c .before .before .before .before .before .width .ensures .0) at (c .before .before .before .before .if3 .left)), eq-eqb _ _ (c .before .before .if4 .left), c .room-of .ensures) refl
 
 pub in-order-spec : {M : Type 1} → statement M
 in-order-spec =
@@ -49,9 +51,10 @@ in-order-spec =
     shared-slice-read-if2
     returns-2
     shared-slice-read-if3
+    width-requires
     returns-3
     shared-slice-read-if4
     returns-4
     shared-slice-read-result
-    sub-result
+    room-of-requires
     returns-5)

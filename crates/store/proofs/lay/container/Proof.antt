@@ -3,8 +3,8 @@ use borrow.Author.Needs.{needs}
 use Rattle.store.proofs.lay.container.Statement.{statement}
 use Rattle.store.proofs.lay.container.Tie as tie
 
-add-t10 : tie.Need-add-t10
-add-t10 c = search needs
+add-t11 : tie.Need-add-t11
+add-t11 c = search needs
 
 container-requires : tie.Need-container-requires
 container-requires c κs = search needs
@@ -19,4 +19,4 @@ returns : tie.Need-returns
 returns c = rw (← c .before .before .before .container .ensures) (c .before .before .put .ensures)
 
 pub container-spec : {M : Type 1} → statement M
-container-spec = tie.close (tie.spec add-t10 container-requires put-requires same-length returns)
+container-spec = tie.close (tie.spec add-t11 container-requires put-requires same-length returns)

@@ -3,8 +3,8 @@ use borrow.Author.Needs.{needs}
 use Rattle.store.proofs.lay.container_of_two.Statement.{statement}
 use Rattle.store.proofs.lay.container_of_two.Tie as tie
 
-add-t9 : tie.Need-add-t9
-add-t9 c = search needs
+add-t10 : tie.Need-add-t10
+add-t10 c = search needs
 
 container-requires : tie.Need-container-requires
 container-requires c κs = search needs
@@ -28,7 +28,7 @@ pub container-of-two-spec : {M : Type 1} → statement M
 container-of-two-spec =
     tie.close
     (tie.spec
-    add-t9
+    add-t10
     container-requires
     leaf-requires
     leaf-requires-2

@@ -10,8 +10,8 @@ leaf-requires c κs = search needs
 put-requires : tie.Need-put-requires
 put-requires c κs = search needs
 
-add-t9 : tie.Need-add-t9
-add-t9 c = search needs
+add-t10 : tie.Need-add-t10
+add-t10 c = search needs
 
 same-length : tie.Need-same-length
 same-length c = search needs
@@ -20,4 +20,4 @@ returns : tie.Need-returns
 returns c = laid-leaf _ (rw (← c .before .before .before .leaf .ensures) (c .before .before .put .ensures))
 
 pub leaf-spec : {M : Type 1} → statement M
-leaf-spec = tie.close (tie.spec leaf-requires put-requires add-t9 same-length returns)
+leaf-spec = tie.close (tie.spec leaf-requires put-requires add-t10 same-length returns)

@@ -1,4 +1,4 @@
--- Inside the tape six words are written; outside of it, nothing.
+-- Inside the tape the words are written; outside of it, nothing.
 use mathlib.Core.Path.{_∙_}
 use native.Mathlib.Omega.{arith}
 use Rattle.tape.specs.TapeLaws.{put-inside, put-outside}
@@ -8,6 +8,9 @@ use Rattle.store.proofs.words.put.Tie as tie
 
 first-word-requires : tie.Need-first-word-requires
 first-word-requires c κs = search needs
+
+width-requires : tie.Need-width-requires
+width-requires c κs = search needs
 
 add-if1 : tie.Need-add-if1
 add-if1 c = search needs
@@ -19,10 +22,27 @@ same-length : tie.Need-same-length
 same-length c = search needs
 
 returns : tie.Need-returns
-returns c = c .before .before .write .ensures ∙ put-inside _ _ _ _ (c .before .before .before .before .before .first-word .ensures) (omega (arith, c .before .before .before .before .if1 .taken))
+returns c =
+    let tested = c .before .before .before .before in
+    let sized = tested .before .width .ensures .0 in
+    let placed = tested .before .before .first-word .ensures .0 in
+    let slim = tested .before .before .before .before .args .slim in
+    c .before .before .write .ensures ∙ put-inside slim _ _ _ _ placed (omega (arith, tested .if1 .taken, sized))
 
 returns-2 : tie.Need-returns-2
-returns-2 c = put-outside _ _ _ (omega (arith, c .before .first-word .ensures))
+returns-2 c =
+    let sized = c .before .width .ensures .0 in
+    let placed = c .before .before .first-word .ensures .0 in
+    put-outside (c .before .before .before .before .args .slim) _ _ _ (omega (arith, c .if1 .left, sized, placed))
 
 pub put-spec : {M : Type 1} → statement M
-put-spec = tie.close (tie.spec first-word-requires add-if1 write-requires same-length returns returns-2)
+put-spec =
+    tie.close
+    (tie.spec
+    first-word-requires
+    width-requires
+    add-if1
+    write-requires
+    same-length
+    returns
+    returns-2)

@@ -28,8 +28,8 @@ octet-label-requires t c κs = search needs
 pub number-requires : (t : ℕ) → decode-lts.Need-number-requires (callees t) (decode-at t) decode.Post
 number-requires t c κs = search needs
 
-pub cast-t11 : (t : ℕ) → decode-lts.Need-cast-t11 (callees t) (decode-at t) decode.Post
-cast-t11 t c = omega (arith, c .number .ensures, number-low (c .before .before .before .before .before .args .registry))
+pub cast-t12 : (t : ℕ) → decode-lts.Need-cast-t12 (callees t) (decode-at t) decode.Post
+cast-t12 t c = omega (arith, c .number .ensures, number-low (c .before .before .before .before .before .args .registry))
 
 pub octet-and-sid-requires : (t : ℕ) → decode-lts.Need-octet-and-sid-requires (callees t) (decode-at t) decode.Post
 octet-and-sid-requires t c κs = omega arith

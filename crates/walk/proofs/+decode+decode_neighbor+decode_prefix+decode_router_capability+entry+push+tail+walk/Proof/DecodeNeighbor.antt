@@ -22,8 +22,8 @@ use Rattle.neighbor.proofs.neighbor.Reads as neighbor-reads
 abbrev pub callees : ℕ → decode-neighbor-lts.Claims
 callees t = (for-type-reads.Asked, for-type-reads.Learnt, system-id-reads.Asked, system-id-reads.Learnt, end-x-head-reads.Asked, end-x-head-reads.Learnt, tail-below t, tail.Post, neighbor-reads.Asked, neighbor-reads.Learnt)
 
-pub cast-t11 : (t : ℕ) → decode-neighbor-lts.Need-cast-t11 (callees t) (decode-neighbor-at t) decode-neighbor.Post
-cast-t11 t c = omega arith
+pub cast-t12 : (t : ℕ) → decode-neighbor-lts.Need-cast-t12 (callees t) (decode-neighbor-at t) decode-neighbor.Post
+cast-t12 t c = omega arith
 
 pub for-type-requires : (t : ℕ) → decode-neighbor-lts.Need-for-type-requires (callees t) (decode-neighbor-at t) decode-neighbor.Post
 for-type-requires t c κs = search needs

@@ -22,8 +22,8 @@ use Rattle.decoders.proofs.prefix.prefix.Reads as prefix-reads
 abbrev pub callees : ℕ → decode-prefix-lts.Claims
 callees t = (end-head-reads.Asked, end-head-reads.Learnt, tail-below t, tail.Post, prefix-reads.Asked, prefix-reads.Learnt)
 
-pub cast-t9 : (t : ℕ) → decode-prefix-lts.Need-cast-t9 (callees t) (decode-prefix-at t) decode-prefix.Post
-cast-t9 t c = omega arith
+pub cast-t10 : (t : ℕ) → decode-prefix-lts.Need-cast-t10 (callees t) (decode-prefix-at t) decode-prefix.Post
+cast-t10 t c = omega arith
 
 pub returns : (t : ℕ) → decode-prefix-lts.Need-returns (callees t) (decode-prefix-at t) decode-prefix.Post
 unfolding usual fieldsOf table leastIn fieldsIn

@@ -24,8 +24,8 @@ use Rattle.decoders.proofs.router_capability.router_capability.Reads as router-
 abbrev pub callees : ℕ → decode-router-capability-lts.Claims
 callees t = (number16-reads.Asked, number16-reads.Learnt, push-below t, push.Post, router-capability-reads.Asked, router-capability-reads.Learnt)
 
-pub cast-t11 : (t : ℕ) → decode-router-capability-lts.Need-cast-t11 (callees t) (decode-router-capability-at t) decode-router-capability.Post
-cast-t11 t c = omega arith
+pub cast-t12 : (t : ℕ) → decode-router-capability-lts.Need-cast-t12 (callees t) (decode-router-capability-at t) decode-router-capability.Post
+cast-t12 t c = omega arith
 
 pub returns : (t : ℕ) → decode-router-capability-lts.Need-returns (callees t) (decode-router-capability-at t) decode-router-capability.Post
 unfolding usual fieldsOf table leastIn fieldsIn
@@ -40,8 +40,8 @@ part-push-start t c = omega arith
 pub part-push-end : (t : ℕ) → decode-router-capability-lts.Need-part-push-end (callees t) (decode-router-capability-at t) decode-router-capability.Post
 part-push-end t c = omega arith
 
-pub add-t21 : (t : ℕ) → decode-router-capability-lts.Need-add-t21 (callees t) (decode-router-capability-at t) decode-router-capability.Post
-add-t21 t c = omega arith
+pub add-t22 : (t : ℕ) → decode-router-capability-lts.Need-add-t22 (callees t) (decode-router-capability-at t) decode-router-capability.Post
+add-t22 t c = omega arith
 
 pub push-requires : (t : ℕ) → decode-router-capability-lts.Need-push-requires (callees t) (decode-router-capability-at t) decode-router-capability.Post
 unfolding usual fieldsOf table leastIn fieldsIn readingOf fieldsTrees fieldTrees taken fieldEnd _⧺_

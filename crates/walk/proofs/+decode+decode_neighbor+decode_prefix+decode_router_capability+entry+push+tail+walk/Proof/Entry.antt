@@ -42,8 +42,8 @@ part-value-start t c = omega arith
 pub part-value-end : (t : ℕ) → entry-lts.Need-part-value-end (callees t) (entry-at t) entry.Post
 part-value-end t c = omega arith
 
-pub add-t22 : (t : ℕ) → entry-lts.Need-add-t22 (callees t) (entry-at t) entry.Post
-add-t22 t c = omega (arith, c .before .before .before .before .before .before .before .before .before .pre .1 .1 .position)
+pub add-t23 : (t : ℕ) → entry-lts.Need-add-t23 (callees t) (entry-at t) entry.Post
+add-t23 t c = omega (arith, c .before .before .before .before .before .before .before .before .before .pre .1 .1 .position)
 
 pub decode-requires : (t : ℕ) → entry-lts.Need-decode-requires (callees t) (entry-at t) entry.Post
 decode-requires t c κs = let g = c .before .before .before .before .before .before .before .before .before .args in let e = g .octets .now in let r = entry-room (numberOf (g .registry)) e (g .base .0) (c .before .before .before .before .before .before .before .before .before .pre .1 .0) (c .before .before .before .before .before .before .before .before .before .pre .1 .1) in rw (part-rest 2 e) (omega (arith, length-drop 2 e), r)

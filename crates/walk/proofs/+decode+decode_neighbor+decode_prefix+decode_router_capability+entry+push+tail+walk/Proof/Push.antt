@@ -22,8 +22,8 @@ walk-requires t c κs = let g = c .before .before .before .args in (omega arith,
 pub number-requires : (t : ℕ) → push-lts.Need-number-requires (callees t) (push-at t) push.Post
 number-requires t c κs = search needs
 
-pub cast-t14 : (t : ℕ) → push-lts.Need-cast-t14 (callees t) (push-at t) push.Post
-cast-t14 t c = omega (arith, c .number .ensures, number-low (c .before .before .before .before .before .before .before .before .args .registry))
+pub cast-t15 : (t : ℕ) → push-lts.Need-cast-t15 (callees t) (push-at t) push.Post
+cast-t15 t c = omega (arith, c .number .ensures, number-low (c .before .before .before .before .before .before .before .before .args .registry))
 
 pub raw-requires : (t : ℕ) → push-lts.Need-raw-requires (callees t) (push-at t) push.Post
 raw-requires t c κs = let g = c .before .before .before .before .before .before .before .before .before .args in let r = push-room (numberOf (g .registry)) (g .area .now) (g .base .0) (c .before .before .before .before .before .before .before .before .before .pre .1) in omega (arith, r .octet, r .position, c .before .before .before .before .before .walk .ensures .laid .place)

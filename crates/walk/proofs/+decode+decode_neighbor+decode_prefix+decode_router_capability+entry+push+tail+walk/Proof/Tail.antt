@@ -40,8 +40,8 @@ cast-stop t c = omega (arith, c .shared-slice-known2 .given (c .before .before .
 pub add-stop : (t : ℕ) → tail-lts.Need-add-stop (callees t) (tail-at t) tail.Post
 add-stop t c = omega (arith, c .shared-slice-known2 .given (c .before .before .before .before .before .before .before .before .args .at + 16))
 
-pub add-t22 : (t : ℕ) → tail-lts.Need-add-t22 (callees t) (tail-at t) tail.Post
-add-t22 t c = omega arith
+pub add-t23 : (t : ℕ) → tail-lts.Need-add-t23 (callees t) (tail-at t) tail.Post
+add-t23 t c = omega arith
 
 pub same-length-2 : (t : ℕ) → tail-lts.Need-same-length-2 (callees t) (tail-at t) tail.Post
 same-length-2 t c = omega arith
@@ -58,14 +58,14 @@ part-walk-start t c = omega arith
 pub part-walk-end : (t : ℕ) → tail-lts.Need-part-walk-end (callees t) (tail-at t) tail.Post
 part-walk-end t c = omega arith
 
-pub add-t27 : (t : ℕ) → tail-lts.Need-add-t27 (callees t) (tail-at t) tail.Post
-add-t27 t c = omega arith
+pub add-t28 : (t : ℕ) → tail-lts.Need-add-t28 (callees t) (tail-at t) tail.Post
+add-t28 t c = omega arith
 
 pub walk-requires : (t : ℕ) → tail-lts.Need-walk-requires (callees t) (tail-at t) tail.Post
 walk-requires t c κs = let g = c .before .before .before .before .before .before .before .before .before .before .before .args in let v = g .value .now in let b = g .source .base .0 in let r = g .source .registry in (omega (arith, inside-length r v b (g .at) (c .before .before .before .before .before .before .before .sid-octets .ensures) (c .before .before .if2 .left)), inner-room r v b (g .at) (c .before .before .before .before .before .before .before .sid-octets .ensures) (c .before .before .if2 .left) (c .before .before .before .before .before .before .before .before .before .before .before .pre .1 .1))
 
-pub add-t21 : (t : ℕ) → tail-lts.Need-add-t21 (callees t) (tail-at t) tail.Post
-add-t21 t c = let g = c .before .before .before .before .before .before .before .before .before .before .before .before .before .before .before .args in let v = g .value .now in let b = g .source .base .0 in let r = g .source .registry in omega (arith, c .before .before .before .walk .ensures .covers, covered-le (inside r v b (g .at) (c .before .before .before .before .before .before .before .before .before .before .before .sid-octets .ensures)), inside-length r v b (g .at) (c .before .before .before .before .before .before .before .before .before .before .before .sid-octets .ensures) (c .before .before .before .before .before .before .if2 .left), c .before .before .before .before .before .before .before .before .before .before .before .before .before .before .before .pre .1 .1 .octet)
+pub add-t22 : (t : ℕ) → tail-lts.Need-add-t22 (callees t) (tail-at t) tail.Post
+add-t22 t c = let g = c .before .before .before .before .before .before .before .before .before .before .before .before .before .before .before .args in let v = g .value .now in let b = g .source .base .0 in let r = g .source .registry in omega (arith, c .before .before .before .walk .ensures .covers, covered-le (inside r v b (g .at) (c .before .before .before .before .before .before .before .before .before .before .before .sid-octets .ensures)), inside-length r v b (g .at) (c .before .before .before .before .before .before .before .before .before .before .before .sid-octets .ensures) (c .before .before .before .before .before .before .if2 .left), c .before .before .before .before .before .before .before .before .before .before .before .before .before .before .before .pre .1 .1 .octet)
 
 pub same-length-3 : (t : ℕ) → tail-lts.Need-same-length-3 (callees t) (tail-at t) tail.Post
 same-length-3 t c = omega arith

@@ -26,16 +26,16 @@ abbrev pub callees : ℕ → walk-lts.Claims
 callees t = (entry-below t, entry.Post, number-reads.Asked, number-reads.Learnt, container-reads.Asked, container-reads.Learnt)
 
 abbrev pub Inv-loop : walk-lts.InvT-loop
-Inv-loop area base registry tape₀ at n left₀ place₀ next₀ tape left place next = CutOff entryLength (entryTrees usual (walked usual) (numberOf registry)) (base .0) area tape₀ tape (at .0 + 1) left (place .0) (next .0)
+Inv-loop area base registry tape₀ slim at n left₀ place₀ next₀ tape left place next = CutOff slim entryLength (entryTrees usual (walked usual) (numberOf registry)) (base .0) area tape₀ tape (at .0 + 1) left (place .0) (next .0)
 
 abbrev pub μ-loop : walk-lts.MeasureT-loop
-μ-loop area base registry tape₀ at n left₀ place₀ next₀ tape left place next = length left
+μ-loop area base registry tape₀ slim at n left₀ place₀ next₀ tape left place next = length left
 
 pub returns : (t : ℕ) → walk-lts.Need-returns (callees t) (walk-at t) walk.Post Inv-loop μ-loop
 returns t c = let g = c .before .before .before .args in walk-none (numberOf (g .registry)) (g .area .now) (g .base .0) (c .if1 .taken)
 
-pub add-t14 : (t : ℕ) → walk-lts.Need-add-t14 (callees t) (walk-at t) walk.Post Inv-loop μ-loop
-add-t14 t c = omega arith
+pub add-t15 : (t : ℕ) → walk-lts.Need-add-t15 (callees t) (walk-at t) walk.Post Inv-loop μ-loop
+add-t15 t c = omega arith
 
 pub loop-holds : (t : ℕ) → walk-lts.Need-loop-holds (callees t) (walk-at t) walk.Post Inv-loop μ-loop
 loop-holds t c = cut-off-start _ _ _ _ _ _
@@ -70,8 +70,8 @@ part-left-start t c = omega arith
 pub part-left-end : (t : ℕ) → walk-lts.Need-part-left-end (callees t) (walk-at t) walk.Post Inv-loop μ-loop
 part-left-end t c = omega arith
 
-pub add-t15 : (t : ℕ) → walk-lts.Need-add-t15 (callees t) (walk-at t) walk.Post Inv-loop μ-loop
-add-t15 t c = omega (arith, c .before .before .before .before .before .before .before .before .before .before .loop .inv .there, c .before .before .before .before .before .before .before .before .before .before .loop .inv .cutting .inside, c .before .before .before .before .before .before .before .before .shared-slice-known2 .given 1, c .before .before .before .before .before .before .before .before .before .before .before .before .before .before .before .pre .1 .octet)
+pub add-t16 : (t : ℕ) → walk-lts.Need-add-t16 (callees t) (walk-at t) walk.Post Inv-loop μ-loop
+add-t16 t c = omega (arith, c .before .before .before .before .before .before .before .before .before .before .loop .inv .there, c .before .before .before .before .before .before .before .before .before .before .loop .inv .cutting .inside, c .before .before .before .before .before .before .before .before .shared-slice-known2 .given 1, c .before .before .before .before .before .before .before .before .before .before .before .before .before .before .before .pre .1 .octet)
 
 pub loop-less : (t : ℕ) → walk-lts.Need-loop-less (callees t) (walk-at t) walk.Post Inv-loop μ-loop
 loop-less t c = omega arith
@@ -85,8 +85,8 @@ sub-covered t c = omega (arith, c .before .before .before .loop .inv .there)
 pub number-requires : (t : ℕ) → walk-lts.Need-number-requires (callees t) (walk-at t) walk.Post Inv-loop μ-loop
 number-requires t c κs = search needs
 
-pub cast-t27 : (t : ℕ) → walk-lts.Need-cast-t27 (callees t) (walk-at t) walk.Post Inv-loop μ-loop
-cast-t27 t c = omega (arith, c .number .ensures, number-low (c .before .before .before .before .before .before .before .before .before .args .registry))
+pub cast-t28 : (t : ℕ) → walk-lts.Need-cast-t28 (callees t) (walk-at t) walk.Post Inv-loop μ-loop
+cast-t28 t c = omega (arith, c .number .ensures, number-low (c .before .before .before .before .before .before .before .before .before .args .registry))
 
 pub container-requires : (t : ℕ) → walk-lts.Need-container-requires (callees t) (walk-at t) walk.Post Inv-loop μ-loop
 container-requires t c κs = omega arith
