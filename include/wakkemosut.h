@@ -33,7 +33,8 @@ enum wakkemosut_answer {
     WAKKEMOSUT_NO_REGISTRY = 1,      /* the registry is not 0 to 5 */
     WAKKEMOSUT_AREA_TOO_LONG = 2,    /* the area has over 65,535 octets */
     WAKKEMOSUT_BASE_TOO_HIGH = 3,    /* base + area length is over 4,294,967,295 */
-    WAKKEMOSUT_NO_TAPE = 4,          /* under 4 words, words 1 to 3 not 4, 6, 0, or more used than there is room for */
+    WAKKEMOSUT_NO_TAPE = 4,          /* under 4 words, words 1 to 3 not 4, 6, 0 (4, 4, 0 for a slim call), or more used than
+                                        there is room for */
     WAKKEMOSUT_NO_ROOM = 5,          /* more records needed than there is free room for; how many: WAKKEMOSUT_NEEDED */
     WAKKEMOSUT_PAST_COUNT = 6,       /* a read at or past the count of records, or a mark past it */
     WAKKEMOSUT_CUTS_CONTAINER = 7,   /* a record that the cut would keep ends after the mark */
@@ -57,20 +58,29 @@ enum wakkemosut_registry {
 #define WAKKEMOSUT_HIGHEST_OCTET 4294967295
 #define WAKKEMOSUT_LONGEST_NAME 59
 
+/*
+ * A tape has one of two layouts. A record takes six words in the usual one and four in the slim one, which needs two thirds of the
+ * memory: choose it where memory is short. Each call on a tape has a twin for slim tapes, wakkemosut_slim_..., with the same
+ * parameters, answers and numbers; a read gives the same six words. A tape of one layout is refused with NO_TAPE by the calls of
+ * the other, but for clear, which makes a tape of its own layout out of any four words or more.
+ */
+
 /* Words of a tape: the header's places, and the lengths of header and record. */
 enum wakkemosut_tape {
     WAKKEMOSUT_TAPE_USED = 0,         /* records used */
     WAKKEMOSUT_TAPE_FIRST_RECORD = 1, /* the word at which the first record starts: 4 */
-    WAKKEMOSUT_TAPE_RECORD_WORDS = 2, /* words in a record: 6 */
+    WAKKEMOSUT_TAPE_RECORD_WORDS = 2, /* words in a record: 6, on a slim tape 4 */
     WAKKEMOSUT_TAPE_ZERO = 3,         /* 0 */
     WAKKEMOSUT_HEADER_WORDS = 4,
-    WAKKEMOSUT_RECORD_WORDS = 6
+    WAKKEMOSUT_RECORD_WORDS = 6,
+    WAKKEMOSUT_SLIM_RECORD_WORDS = 4
 };
 
-/* The words of a tape with room for so many records. */
+/* The words of a tape with room for so many records: of the usual layout, and of a slim one. */
 #define WAKKEMOSUT_TAPE_WORDS(records) (WAKKEMOSUT_HEADER_WORDS + WAKKEMOSUT_RECORD_WORDS * (size_t)(records))
+#define WAKKEMOSUT_SLIM_TAPE_WORDS(records) (WAKKEMOSUT_HEADER_WORDS + WAKKEMOSUT_SLIM_RECORD_WORDS * (size_t)(records))
 
-/* Words of a record. */
+/* Words of a record: as they lie on a tape of the usual layout, and as a read gives them of either. */
 enum wakkemosut_word {
     WAKKEMOSUT_WORD_KIND = 0,        /* label + 256 x shape + 65,536 x registry of the walk that wrote it */
     WAKKEMOSUT_WORD_START = 1,       /* the first octet, base added */
@@ -79,6 +89,18 @@ enum wakkemosut_word {
     WAKKEMOSUT_WORD_FIRST_CHILD = 4, /* a container's first child, as a record position; 0 for a leaf */
     WAKKEMOSUT_WORD_CHILDREN_END = 5 /* one past a container's last descendant; 0 for a leaf */
 };
+
+/* Words of a record as they lie on a slim tape. */
+enum wakkemosut_slim_word {
+    WAKKEMOSUT_SLIM_WORD_KIND = 0,    /* as WAKKEMOSUT_WORD_KIND */
+    WAKKEMOSUT_SLIM_WORD_OCTETS = 1,  /* start + 4,294,967,296 x end */
+    WAKKEMOSUT_SLIM_WORD_NUMBER = 2,  /* as WAKKEMOSUT_WORD_NUMBER */
+    WAKKEMOSUT_SLIM_WORD_CHILDREN = 3 /* first child + 4,294,967,296 x children's end */
+};
+
+/* The parts of a slim record's words OCTETS and CHILDREN: start or first child, and end. */
+#define WAKKEMOSUT_SLIM_START_OF(word) ((word) & 4294967295u)
+#define WAKKEMOSUT_SLIM_END_OF(word) ((word) >> 32)
 
 /* The parts of a record's word 0. */
 #define WAKKEMOSUT_LABEL_OF(kind) ((kind) & 255u)
@@ -194,6 +216,19 @@ void wakkemosut_read(const uint64_t *tape, size_t words, uint64_t at, uint64_t r
 
 /* Whether the used records split into trees, containers at most 4 deep: 1 yes, 0 no, which it is for what is no tape. */
 uint8_t wakkemosut_nest_test(const uint64_t *tape, size_t words);
+
+/*
+ * The same calls on a slim tape, each with the answers of its twin. What differs: clear writes the header 0, 4, 4, 0, the others
+ * ask for 4, 4, 0 in words 1 to 3, a record lies in four words, and room is never over 4,294,967,295 records.
+ */
+void wakkemosut_slim_walk(const uint8_t *area, size_t area_length, uint64_t base, uint64_t registry, uint64_t *tape, size_t words,
+                          uint64_t numbers[4]);
+void wakkemosut_slim_push(const uint8_t *area, size_t area_length, uint64_t base, uint64_t registry, uint64_t *tape, size_t words,
+                          uint64_t numbers[4]);
+void wakkemosut_slim_clear(uint64_t *tape, size_t words, uint64_t numbers[4]);
+void wakkemosut_slim_cut_back(uint64_t *tape, size_t words, uint64_t mark, uint64_t numbers[4]);
+void wakkemosut_slim_read(const uint64_t *tape, size_t words, uint64_t at, uint64_t record[6], uint64_t numbers[4]);
+uint8_t wakkemosut_slim_nest_test(const uint64_t *tape, size_t words);
 
 /*
  * Writes the name of a type in a registry to the front of `out`, without a NUL after it; octets after the name stay. Written is

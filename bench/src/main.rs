@@ -1,5 +1,5 @@
-//! Times the proved library's push against the Rust module's, over the areas of `areas.txt`, and
-//! prints both. First it holds their records to each other.
+//! Times the proved library's push, in both layouts of its tape, against the Rust module's, over the
+//! areas of `areas.txt`, and prints all three. First it holds their records to each other.
 
 #![forbid(unsafe_code)]
 
@@ -19,6 +19,7 @@ use loads::{loads, packets};
 use pushers::{Ours, Rust, assert_alike};
 use table::Row;
 use timing::Times;
+use wakkemosut::Slim;
 
 /// The most areas of a packet, where no number is named.
 const PACKET: usize = 16;
@@ -52,19 +53,21 @@ fn packet_size(words: &[OsString]) -> Option<usize> {
     }
 }
 
-/// Times both over all loads, whose packets have at most `size` areas, and prints the table.
+/// Times all over all loads, whose packets have at most `size` areas, and prints the table.
 fn bench(size: usize) {
     let areas = areas();
     areas.iter().for_each(assert_alike);
-    println!("{} areas give the same records in both", areas.len());
+    let count = areas.len();
+    println!("{count} areas give the same records in the Rust and in both layouts of ours");
     println!("a packet has at most {size} of them");
     let loads = loads(&areas, size);
     let packets = packets(&loads);
-    let mut ours = Ours::with_room_for(&packets);
     let mut rust = Rust::with_room_for(&packets);
+    let mut ours = Ours::with_room_for(&packets);
+    let mut slim = Ours::<Slim>::with_room_for(&packets);
     println!("{}", table::HEAD);
     for load in &loads {
-        let times = Times::of(&load.packets, &mut ours, &mut rust);
+        let times = Times::of(&load.packets, &mut rust, &mut ours, &mut slim);
         println!("{}", Row::of(load, times, &mut ours));
     }
 }
@@ -80,7 +83,7 @@ mod tests {
     }
 
     #[test]
-    fn every_area_gives_the_same_records_in_both() {
+    fn every_area_gives_the_same_records_in_all() {
         areas().iter().for_each(assert_alike);
     }
 

@@ -1,10 +1,11 @@
-//! The two that push, each into a buffer of its own that is kept from push to push.
+//! Those that push, each into a buffer of its own that is kept from push to push.
 
 use std::hint::black_box;
+use std::marker::PhantomData;
 
 use oracle::bench::push_onto;
 use oracle::packet::DissectBuffer;
-use wakkemosut::{Tape, most_records};
+use wakkemosut::{Layout, Position, Slim, Tape, Usual, most_records};
 
 use crate::areas::Area;
 use crate::loads::Packet;
@@ -21,9 +22,10 @@ pub trait Pusher<'areas> {
     fn push(&mut self, area: &'areas Area) -> usize;
 }
 
-/// The proved library, on a tape.
-pub struct Ours {
+/// The proved library, on a tape of a layout.
+pub struct Ours<L: Layout = Usual> {
     words: Vec<u64>,
+    layout: PhantomData<L>,
 }
 
 /// The Rust module, on the stand-in for its buffer.
@@ -31,12 +33,13 @@ pub struct Rust<'areas> {
     buffer: DissectBuffer<'areas>,
 }
 
-impl Ours {
+impl<L: Layout> Ours<L> {
     /// With room to spare for each of these packets.
     pub fn with_room_for(packets: &[Packet<'_>]) -> Self {
         let room = packets.iter().map(|packet| most_records_of(packet)).max();
         Self {
-            words: vec![0; Tape::words_for(room.unwrap_or(0))],
+            words: vec![0; Tape::<L>::words_in_layout(room.unwrap_or(0))],
+            layout: PhantomData,
         }
     }
 }
@@ -63,14 +66,14 @@ impl<'areas> Rust<'areas> {
     }
 }
 
-impl Pusher<'_> for Ours {
+impl<L: Layout> Pusher<'_> for Ours<L> {
     fn empty(&mut self) {
-        let mut tape = Tape::over(&mut self.words);
+        let mut tape = Tape::<L>::in_layout(&mut self.words);
         tape.clear().expect("there is room for a header");
     }
 
     fn push(&mut self, area: &Area) -> usize {
-        let mut tape = Tape::over(&mut self.words);
+        let mut tape = Tape::<L>::in_layout(&mut self.words);
         let octets = black_box(&area.octets[..]);
         let laid = tape.push(area.registry, BASE.into(), octets);
         laid.expect("the area is not refused");
@@ -92,25 +95,33 @@ impl<'areas> Pusher<'areas> for Rust<'areas> {
     }
 }
 
-/// Asserts that both give the same records for an area, and cover the same octets.
+/// Asserts that the Rust and both layouts of ours give the same records for an area, and cover the
+/// same octets.
 pub fn assert_alike(area: &Area) {
     let expected = oracle::push(area.registry.number() as u8, BASE, &area.octets);
-    let records: Vec<[u64; 6]> = expected.records.iter().map(words).collect();
-    let mut lent = vec![u64::MAX; Tape::words_for(records.len())];
-    let mut tape = Tape::cleared(&mut lent).expect("there is room for a header");
+    assert_gives::<Usual>(area, &expected);
+    assert_gives::<Slim>(area, &expected);
+}
+
+/// Asserts that a tape of a layout, with just the room for them, gets these records for an area.
+fn assert_gives<L: Layout>(area: &Area, expected: &oracle::Push) {
+    let count = expected.records.len();
+    let mut lent = vec![u64::MAX; Tape::<L>::words_in_layout(count)];
+    let mut tape = Tape::<L>::cleared_in_layout(&mut lent).expect("there is room for a header");
     let laid = tape.push(area.registry, BASE.into(), &area.octets);
     let laid = laid.expect("the area is not refused");
-    assert_eq!(laid.covered, expected.covered, "{}", area.name);
+    let (covered, written) = (expected.covered, count as u64);
+    assert_eq!(laid.covered, covered, "{}", area.name);
+    assert_eq!(laid.written, written, "{}", area.name);
+    let records = (0..written).map(|at| tape.read(Position(at)).expect("it was written").words());
     assert!(
-        tape.words()[4..] == *records.as_flattened(),
+        records.eq(expected.records.iter().map(words)),
         "{}",
         area.name
     );
-    let counts = (laid.written, expected.records.len() as u64);
-    assert_eq!(counts.0, counts.1, "{}", area.name);
 }
 
-/// The words of a record on a tape.
+/// The six words of a record.
 fn words(record: &oracle::Record) -> [u64; 6] {
     let label = u64::from(record.label);
     let shape = u64::from(record.shape);
@@ -138,25 +149,29 @@ mod tests {
     }
 
     #[test]
-    fn both_have_the_same_counts_of_records_again_and_again() {
+    fn all_have_the_same_counts_of_records_again_and_again() {
         let areas = areas();
         let packets = packets(&loads(&areas, 16));
-        let mut ours = Ours::with_room_for(&packets);
+        let mut ours = Ours::<Usual>::with_room_for(&packets);
+        let mut slim = Ours::<Slim>::with_room_for(&packets);
         let mut rust = Rust::with_room_for(&packets);
         for packet in packets.iter().chain(packets.iter().rev()) {
             let of_rust = counts(&mut rust, packet);
             assert!(of_rust[0] > 0, "{}", packet[0].name);
             assert_eq!(counts(&mut ours, packet), of_rust, "{}", packet[0].name);
+            assert_eq!(counts(&mut slim, packet), of_rust, "{}", packet[0].name);
         }
     }
 
     #[test]
-    fn a_push_goes_behind_what_is_there_in_both() {
+    fn a_push_goes_behind_what_is_there_in_all() {
         let areas = areas();
         let packets = [vec![&areas[0]; 3]];
-        let mut ours = Ours::with_room_for(&packets);
+        let mut ours = Ours::<Usual>::with_room_for(&packets);
+        let mut slim = Ours::<Slim>::with_room_for(&packets);
         let mut rust = Rust::with_room_for(&packets);
         assert_eq!(counts(&mut ours, &packets[0]), [5, 10, 15]);
+        assert_eq!(counts(&mut slim, &packets[0]), [5, 10, 15]);
         assert_eq!(counts(&mut rust, &packets[0]), [5, 10, 15]);
     }
 
@@ -166,8 +181,10 @@ mod tests {
         let (small, large) = (&areas[0], &areas[1]);
         let packets = [vec![large], vec![small, large, large], vec![small; 3]];
         let room = most_records(small.octets.len()) + 2 * most_records(large.octets.len());
-        let ours = Ours::with_room_for(&packets);
+        let ours = Ours::<Usual>::with_room_for(&packets);
         assert_eq!(ours.words.len(), Tape::words_for(room));
+        let slim = Ours::<Slim>::with_room_for(&packets);
+        assert_eq!(slim.words.len(), Tape::slim_words_for(room));
     }
 
     #[test]

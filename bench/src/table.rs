@@ -2,14 +2,17 @@
 
 use std::fmt;
 
+use wakkemosut::Tape;
+
 use crate::loads::Load;
 use crate::pushers::{Ours, Pusher};
 use crate::timing::Times;
 
 /// The lines above the rows.
 pub const HEAD: &str = "
-| areas | octets | records | Rust, ns a push | ours, ns a push | Rust / ours |
-|---|---|---|---|---|---|";
+| areas | octets | records | Rust, ns a push | ours, ns a push | Rust / ours \
+| slim, ns a push | Rust / slim | tape, octets | slim tape, octets |
+|---|---|---|---|---|---|---|---|---|---|";
 
 /// One row of the table.
 pub struct Row<'areas> {
@@ -34,16 +37,29 @@ impl<'areas> Row<'areas> {
             times,
         }
     }
+
+    /// The times, and how much longer the Rust takes than each of ours.
+    fn times(&self) -> String {
+        let Times { rust, ours, slim } = self.times;
+        let (ratio, slim_ratio) = (rust / ours, rust / slim);
+        format!("{rust:.0} | {ours:.0} | {ratio:.2} | {slim:.0} | {slim_ratio:.2}")
+    }
+
+    /// The octets of a tape with room for the records, in each layout.
+    fn memory(&self) -> String {
+        let tapes = [Tape::words_for, Tape::slim_words_for];
+        let [usual, slim] = tapes.map(|words_for| size_of::<u64>() * words_for(self.records));
+        format!("{usual} | {slim}")
+    }
 }
 
 impl fmt::Display for Row<'_> {
     fn fmt(&self, out: &mut fmt::Formatter<'_>) -> fmt::Result {
-        let Times { rust, ours } = self.times;
-        let ratio = self.times.ratio();
         let (name, octets, records) = (self.name, self.octets, self.records);
+        let (times, memory) = (self.times(), self.memory());
         write!(
             out,
-            "| {name} | {octets} | {records} | {rust:.0} | {ours:.0} | {ratio:.2} |"
+            "| {name} | {octets} | {records} | {times} | {memory} |"
         )
     }
 }
@@ -54,19 +70,41 @@ mod tests {
     use crate::areas::areas;
     use crate::loads::{loads, packets};
 
+    /// Some times.
+    const TIMES: Times = Times {
+        rust: 30.0,
+        ours: 20.0,
+        slim: 24.0,
+    };
+
     #[test]
     fn a_row_has_the_octets_and_records_of_each_area_once() {
         let areas = areas();
         let loads = loads(&areas, 16);
         let mut ours = Ours::with_room_for(&packets(&loads));
-        let times = Times {
-            rust: 30.0,
-            ours: 20.0,
+        let mut row = |load| Row::of(load, TIMES, &mut ours);
+        let alone = row(&loads[0]);
+        assert_eq!((alone.octets, alone.records), (5, 5));
+        let in_turn = row(&loads[areas.len()]);
+        assert_eq!((in_turn.octets, in_turn.records), (1108, 588));
+    }
+
+    #[test]
+    fn a_row_has_a_cell_for_each_column() {
+        let row = Row {
+            name: "a name",
+            octets: 7,
+            records: 5,
+            times: TIMES,
         };
-        let mut row = |load| Row::of(load, times, &mut ours).to_string();
-        let alone = "| neighbor: a metric alone | 5 | 5 | 30 | 20 | 1.50 |";
-        assert_eq!(row(&loads[0]), alone);
-        let in_turn = "| all that fit a TLV, in turn | 1108 | 588 | 30 | 20 | 1.50 |";
-        assert_eq!(row(&loads[areas.len()]), in_turn);
+        let row = row.to_string();
+        assert_eq!(
+            row,
+            "| a name | 7 | 5 | 30 | 20 | 1.50 | 24 | 1.25 | 272 | 192 |"
+        );
+        let cells = |line: &str| line.matches('|').count();
+        let lines: Vec<&str> = HEAD.lines().skip(1).collect();
+        assert_eq!(lines.len(), 2);
+        assert!(lines.iter().all(|line| cells(line) == cells(&row)));
     }
 }

@@ -3,8 +3,10 @@
 use std::hint::black_box;
 use std::time::{Duration, Instant};
 
+use wakkemosut::{Slim, Usual};
+
 use crate::loads::Packet;
-use crate::pushers::Pusher;
+use crate::pushers::{Ours, Pusher, Rust};
 
 /// How often each is timed. An odd number has a median.
 const ROUNDS: usize = 51;
@@ -15,40 +17,69 @@ const SPAN: Duration = Duration::from_millis(2);
 /// How often so many passes must take a span.
 const TRIES: usize = 3;
 
-/// The median times of both, in nanoseconds for a push.
+/// The median times, in nanoseconds for a push.
 #[derive(Clone, Copy, Debug)]
 pub struct Times {
     /// The Rust module's.
     pub rust: f64,
-    /// The proved library's.
+    /// The proved library's, on a tape of the usual layout.
     pub ours: f64,
+    /// The proved library's, on a slim tape.
+    pub slim: f64,
 }
 
 impl Times {
-    /// Times both over these packets, taking turns.
+    /// Times all three over these packets, taking turns.
     pub fn of<'areas>(
         packets: &[Packet<'areas>],
-        ours: &mut impl Pusher<'areas>,
-        rust: &mut impl Pusher<'areas>,
+        rust: &mut Rust<'areas>,
+        ours: &mut Ours<Usual>,
+        slim: &mut Ours<Slim>,
     ) -> Self {
-        let passes_of_ours = passes(packets, ours);
-        let passes_of_rust = passes(packets, rust);
-        let mut of_ours = Vec::new();
-        let mut of_rust = Vec::new();
+        let mut rust = Timings::of(packets, rust);
+        let mut ours = Timings::of(packets, ours);
+        let mut slim = Timings::of(packets, slim);
         for _ in 0..ROUNDS {
-            of_ours.push(time(packets, passes_of_ours, ours));
-            of_rust.push(time(packets, passes_of_rust, rust));
+            ours.take();
+            rust.take();
+            slim.take();
         }
-        let pushes = pushes(packets);
         Self {
-            rust: a_push(median(of_rust), passes_of_rust * pushes),
-            ours: a_push(median(of_ours), passes_of_ours * pushes),
+            rust: rust.a_push(),
+            ours: ours.a_push(),
+            slim: slim.a_push(),
+        }
+    }
+}
+
+/// The timings of one pusher over packets.
+struct Timings<'run, 'areas, P> {
+    packets: &'run [Packet<'areas>],
+    pusher: &'run mut P,
+    passes: usize,
+    taken: Vec<Duration>,
+}
+
+impl<'run, 'areas, P: Pusher<'areas>> Timings<'run, 'areas, P> {
+    /// None yet, over these packets.
+    fn of(packets: &'run [Packet<'areas>], pusher: &'run mut P) -> Self {
+        Self {
+            passes: passes(packets, pusher),
+            packets,
+            pusher,
+            taken: Vec::new(),
         }
     }
 
-    /// How much longer the Rust takes.
-    pub fn ratio(self) -> f64 {
-        self.rust / self.ours
+    /// Takes one more.
+    fn take(&mut self) {
+        let taken = time(self.packets, self.passes, self.pusher);
+        self.taken.push(taken);
+    }
+
+    /// The median time of a push.
+    fn a_push(self) -> f64 {
+        a_push(median(self.taken), self.passes * pushes(self.packets))
     }
 }
 
@@ -67,8 +98,8 @@ fn passes<'areas>(packets: &[Packet<'areas>], pusher: &mut impl Pusher<'areas>) 
     passes
 }
 
-/// How long so many passes over these packets take. It is never inlined, so that each of the two
-/// pushers has a loop of its own, which is not spread over `main`.
+/// How long so many passes over these packets take. It is never inlined, so that each pusher has a
+/// loop of its own, which is not spread over `main`.
 #[inline(never)]
 fn time<'areas>(
     packets: &[Packet<'areas>],
@@ -157,11 +188,15 @@ mod tests {
     }
 
     #[test]
-    fn a_ratio_over_1_means_that_ours_is_faster() {
-        let times = Times {
-            rust: 30.0,
-            ours: 20.0,
+    fn timings_give_the_median_of_a_push() {
+        let areas = areas();
+        let packets = [vec![&areas[0]; 4]];
+        let timings = Timings {
+            packets: &packets,
+            pusher: &mut Counting::default(),
+            passes: 2,
+            taken: [9, 1, 4].map(Duration::from_micros).to_vec(),
         };
-        assert_eq!(times.ratio(), 1.5);
+        assert_eq!(timings.a_push(), 500.0);
     }
 }

@@ -1,6 +1,7 @@
 /*
- * Uses every function of wakkemosut.h and holds it to document 01: its examples, and a refusal of each function that refuses.
- * Prints one line and exits with 0, or names the first check that failed and exits with 1.
+ * Uses every function of wakkemosut.h and holds it to document 01: its examples, and each refusal of each function. The calls on
+ * a tape are tested in both layouts, the slim one by document 02, request 09. Prints one line and exits with 0, or names the first
+ * check that failed and exits with 1.
  */
 #include <stdio.h>
 #include <stdlib.h>
@@ -9,27 +10,88 @@
 #include "wakkemosut.h"
 
 #define CHECK(held) check((held), #held, __LINE__)
+#define KIND(label, shape, registry) ((label) + 256 * (shape) + 65536 * (registry))
 
 #define BASE 100
 #define ROOM 5
-#define WORDS WAKKEMOSUT_TAPE_WORDS(ROOM)
-#define MORE_WORDS WAKKEMOSUT_TAPE_WORDS(ROOM + 2)
+#define MORE_ROOM 7
+#define WORDS words_for(ROOM)
+#define MORE_WORDS words_for(MORE_ROOM)
+#define LENT WAKKEMOSUT_TAPE_WORDS(MORE_ROOM)
 #define GUARD UINT64_C(0x5A5AA5A501234567)
 #define GUARD_OCTET 0xC3
 
 /* The octets of 01's third case: registry 0, a TE metric of 10. */
 static const uint8_t METRIC[5] = {0x12, 0x03, 0x00, 0x00, 0x0A};
 
-/* Its records at base 100: label, shape, registry, words 1 to 5, as 01's listing has them. */
-static const uint64_t LISTING[ROOM][8] = {
-    {WAKKEMOSUT_LABEL_SUB_TLVS, WAKKEMOSUT_SHAPE_ARRAY, 0, 100, 105, 0, 1, 5},
-    {WAKKEMOSUT_LABEL_SUB_TLV, WAKKEMOSUT_SHAPE_OBJECT, 0, 100, 105, 0, 2, 5},
-    {WAKKEMOSUT_LABEL_TYPE, WAKKEMOSUT_SHAPE_U8, 0, 100, 101, 18, 0, 0},
-    {WAKKEMOSUT_LABEL_LENGTH, WAKKEMOSUT_SHAPE_U8, 0, 101, 102, 3, 0, 0},
-    {WAKKEMOSUT_LABEL_TE_DEFAULT_METRIC, WAKKEMOSUT_SHAPE_U32, 0, 102, 105, 10, 0, 0}};
+/* Its records at base 100, as 01's listing has them. */
+static const uint64_t LISTING[ROOM][6] = {
+    {KIND(WAKKEMOSUT_LABEL_SUB_TLVS, WAKKEMOSUT_SHAPE_ARRAY, 0), 100, 105, 0, 1, 5},
+    {KIND(WAKKEMOSUT_LABEL_SUB_TLV, WAKKEMOSUT_SHAPE_OBJECT, 0), 100, 105, 0, 2, 5},
+    {KIND(WAKKEMOSUT_LABEL_TYPE, WAKKEMOSUT_SHAPE_U8, 0), 100, 101, 18, 0, 0},
+    {KIND(WAKKEMOSUT_LABEL_LENGTH, WAKKEMOSUT_SHAPE_U8, 0), 101, 102, 3, 0, 0},
+    {KIND(WAKKEMOSUT_LABEL_TE_DEFAULT_METRIC, WAKKEMOSUT_SHAPE_U32, 0), 102, 105, 10, 0, 0}};
+
+/* What a refused read gives. */
+static const uint64_t ZEROS[6] = {0, 0, 0, 0, 0, 0};
+
+/* A walk or a push. */
+typedef void area_call(const uint8_t *, size_t, uint64_t, uint64_t, uint64_t *, size_t, uint64_t *);
+
+/* One layout: its calls on a tape, how a record's six words lie there, and in how many words. */
+struct layout {
+    const char *name;
+    area_call *walk, *push;
+    void (*clear)(uint64_t *, size_t, uint64_t *);
+    void (*cut_back)(uint64_t *, size_t, uint64_t, uint64_t *);
+    void (*read)(const uint64_t *, size_t, uint64_t, uint64_t *, uint64_t *);
+    uint8_t (*nest_test)(const uint64_t *, size_t);
+    void (*lay)(const uint64_t *, uint64_t *);
+    size_t record_words;
+};
+
+/* Lays a record's six words one after the other (01). */
+static void lay_usual(const uint64_t *record, uint64_t *words) {
+    memcpy(words, record, 6 * sizeof *record);
+}
+
+/* Lays a record's six words in four: start and end in one, first child and children's end in one (02). */
+static void lay_slim(const uint64_t *record, uint64_t *words) {
+    words[WAKKEMOSUT_SLIM_WORD_KIND] = record[0];
+    words[WAKKEMOSUT_SLIM_WORD_OCTETS] = record[1] + UINT64_C(4294967296) * record[2];
+    words[WAKKEMOSUT_SLIM_WORD_NUMBER] = record[3];
+    words[WAKKEMOSUT_SLIM_WORD_CHILDREN] = record[4] + UINT64_C(4294967296) * record[5];
+}
+
+/* The layout of 01. */
+static const struct layout USUAL = {
+    .name = "usual",
+    .walk = wakkemosut_walk,
+    .push = wakkemosut_push,
+    .clear = wakkemosut_clear,
+    .cut_back = wakkemosut_cut_back,
+    .read = wakkemosut_read,
+    .nest_test = wakkemosut_nest_test,
+    .lay = lay_usual,
+    .record_words = 6};
+
+/* The layout of 02, request 09. */
+static const struct layout SLIM = {
+    .name = "slim",
+    .walk = wakkemosut_slim_walk,
+    .push = wakkemosut_slim_push,
+    .clear = wakkemosut_slim_clear,
+    .cut_back = wakkemosut_slim_cut_back,
+    .read = wakkemosut_slim_read,
+    .nest_test = wakkemosut_slim_nest_test,
+    .lay = lay_slim,
+    .record_words = 4};
+
+/* The layout under test. */
+static const struct layout *layout = &USUAL;
 
 /* A tape with room for the third case and more, a word after it that must stay, and the numbers of the last call. */
-static uint64_t tape[MORE_WORDS + 1];
+static uint64_t tape[LENT + 1];
 static uint64_t numbers[WAKKEMOSUT_NUMBERS + 1];
 static unsigned checks;
 
@@ -39,213 +101,331 @@ static void check(int held, const char *what, int line) {
     if (held)
         return;
     fprintf(stderr, "test.c:%d: not so: %s\n", line, what);
-    fprintf(stderr, "numbers: %llu %llu %llu %llu\n", (unsigned long long)numbers[0], (unsigned long long)numbers[1],
-            (unsigned long long)numbers[2], (unsigned long long)numbers[3]);
+    fprintf(stderr, "%s layout, numbers: %llu %llu %llu %llu\n", layout->name, (unsigned long long)numbers[0],
+            (unsigned long long)numbers[1], (unsigned long long)numbers[2], (unsigned long long)numbers[3]);
     exit(1);
+}
+
+/* The words of a tape with room for so many records; the record after these starts there. */
+static size_t words_for(size_t records) {
+    return layout == &SLIM ? WAKKEMOSUT_SLIM_TAPE_WORDS(records) : WAKKEMOSUT_TAPE_WORDS(records);
+}
+
+/* Fills the numbers with words that no call gives. */
+static void forget_numbers(void) {
+    size_t at;
+    for (at = 0; at <= WAKKEMOSUT_NUMBERS; at++)
+        numbers[at] = GUARD;
 }
 
 /* Fills the tape and the numbers with words that no call gives. */
 static void fill(void) {
     size_t at;
-    for (at = 0; at <= MORE_WORDS; at++)
+    for (at = 0; at <= LENT; at++)
         tape[at] = GUARD;
-    for (at = 0; at <= WAKKEMOSUT_NUMBERS; at++)
-        numbers[at] = GUARD;
+    forget_numbers();
+}
+
+/* Whether the last call gave these numbers, and wrote no word after them. If so, they are forgotten. */
+static int gave(uint64_t answer, uint64_t covered, uint64_t written, uint64_t needed) {
+    const uint64_t wanted[5] = {answer, covered, written, needed, GUARD};
+    if (memcmp(numbers, wanted, sizeof wanted) != 0)
+        return 0;
+    forget_numbers();
+    return 1;
+}
+
+/* Whether the last call was refused so, without a number besides. */
+static int refused(uint64_t answer) {
+    return gave(answer, 0, 0, 0);
 }
 
 /* Fills the tape and clears its header. */
 static void start(void) {
     fill();
-    wakkemosut_clear(tape, WORDS, numbers);
-}
-
-/* Whether the last call gave these numbers, and wrote no word after them. */
-static int gave(uint64_t answer, uint64_t covered, uint64_t written, uint64_t needed) {
-    const uint64_t wanted[5] = {answer, covered, written, needed, GUARD};
-    return memcmp(numbers, wanted, sizeof wanted) == 0;
+    layout->clear(tape, WORDS, numbers);
+    CHECK(gave(WAKKEMOSUT_DONE, 0, 0, 0));
 }
 
 /* Whether the tape's header says that so many records are used. */
 static int used(uint64_t count) {
-    const uint64_t header[4] = {count, 4, 6, 0};
+    const uint64_t header[4] = {count, 4, layout->record_words, 0};
     return memcmp(tape, header, sizeof header) == 0;
 }
 
-/* Whether no word from a place on and before another was ever written. */
-static int untouched(size_t from, size_t to) {
-    for (; from < to; from++)
+/* Whether no word from a place on was ever written. */
+static int untouched(size_t from) {
+    for (; from <= LENT; from++)
         if (tape[from] != GUARD)
             return 0;
     return 1;
 }
 
-/* The six words of a line of the listing. */
-static void words_of(const uint64_t line[8], uint64_t words[6]) {
-    words[WAKKEMOSUT_WORD_KIND] = line[0] + 256 * line[1] + 65536 * line[2];
-    memcpy(words + 1, line + 3, 5 * sizeof *line);
+/* Whether a record stands on the tape at a position. */
+static int stands(size_t position, const uint64_t record[6]) {
+    uint64_t wanted[6];
+    layout->lay(record, wanted);
+    return memcmp(tape + words_for(position), wanted, layout->record_words * sizeof *wanted) == 0;
 }
 
 /* Whether the records of the listing stand on the tape from a position on, children moved as far. */
 static int listed_from(size_t position) {
     size_t at;
     for (at = 0; at < ROOM; at++) {
-        uint64_t wanted[6];
-        words_of(LISTING[at], wanted);
-        if (wanted[WAKKEMOSUT_WORD_CHILDREN_END] > 0) {
-            wanted[WAKKEMOSUT_WORD_FIRST_CHILD] += position;
-            wanted[WAKKEMOSUT_WORD_CHILDREN_END] += position;
+        uint64_t record[6];
+        memcpy(record, LISTING[at], sizeof record);
+        if (record[WAKKEMOSUT_WORD_CHILDREN_END] > 0) {
+            record[WAKKEMOSUT_WORD_FIRST_CHILD] += position;
+            record[WAKKEMOSUT_WORD_CHILDREN_END] += position;
         }
-        if (memcmp(tape + WAKKEMOSUT_TAPE_WORDS(position + at), wanted, sizeof wanted) != 0)
+        if (!stands(position + at, record))
             return 0;
     }
     return 1;
 }
 
-/* Pushes the third case with this registry and base onto the tape, which has this many words. */
-static void push_metric(uint64_t registry, uint64_t base, size_t words) {
-    wakkemosut_push(METRIC, sizeof METRIC, base, registry, tape, words, numbers);
+/* Puts a record of the listing on the tape at its position, one of its words changed. */
+static void put_changed(size_t position, size_t word, uint64_t changed) {
+    uint64_t record[6];
+    memcpy(record, LISTING[position], sizeof record);
+    record[word] = changed;
+    layout->lay(record, tape + words_for(position));
+}
+
+/* Pushes octets of registry 0 at base 100 onto the tape, which has this many words. */
+static void push_neighbor(const uint8_t *area, size_t length, size_t words) {
+    layout->push(area, length, BASE, WAKKEMOSUT_REGISTRY_NEIGHBOR, tape, words, numbers);
+}
+
+/* Clears the tape and pushes the third case onto it. */
+static void start_with_metric(void) {
+    start();
+    push_neighbor(METRIC, sizeof METRIC, WORDS);
+    CHECK(gave(WAKKEMOSUT_DONE, 5, 5, 5));
+}
+
+/* Whether a read of a position, on a tape of so many words, gives these six words and writes none after them. */
+static int reads(uint64_t at, size_t words, const uint64_t wanted[6]) {
+    uint64_t record[7] = {1, 1, 1, 1, 1, 1, GUARD};
+    layout->read(tape, words, at, record, numbers);
+    return memcmp(record, wanted, 6 * sizeof *wanted) == 0 && record[6] == GUARD;
+}
+
+/* Checks that these words of the tape are no tape to any call but clear, and that all of it stays. */
+static void check_no_tape(size_t words) {
+    uint64_t before[LENT + 1];
+    memcpy(before, tape, sizeof tape);
+    layout->walk(NULL, 0, BASE, WAKKEMOSUT_REGISTRY_NEIGHBOR, tape, words, numbers);
+    CHECK(refused(WAKKEMOSUT_NO_TAPE));
+    push_neighbor(METRIC, sizeof METRIC, words);
+    CHECK(refused(WAKKEMOSUT_NO_TAPE));
+    layout->cut_back(tape, words, 0, numbers);
+    CHECK(refused(WAKKEMOSUT_NO_TAPE));
+    CHECK(reads(0, words, ZEROS) && refused(WAKKEMOSUT_NO_TAPE));
+    CHECK(layout->nest_test(tape, words) == 0);
+    CHECK(memcmp(tape, before, sizeof before) == 0);
 }
 
 static void test_clear(void) {
     fill();
-    wakkemosut_clear(tape, 3, numbers);
-    CHECK(gave(WAKKEMOSUT_NO_TAPE, 0, 0, 0) && untouched(0, MORE_WORDS + 1));
-    wakkemosut_clear(NULL, 0, numbers);
-    CHECK(gave(WAKKEMOSUT_NO_TAPE, 0, 0, 0));
-    wakkemosut_clear(tape, WORDS, numbers);
+    layout->clear(tape, 3, numbers);
+    CHECK(refused(WAKKEMOSUT_NO_TAPE) && untouched(0));
+    layout->clear(NULL, 0, numbers);
+    CHECK(refused(WAKKEMOSUT_NO_TAPE));
+    layout->clear(tape, WORDS, numbers);
     CHECK(gave(WAKKEMOSUT_DONE, 0, 0, 0));
-    CHECK(used(0) && untouched(4, MORE_WORDS + 1));
+    CHECK(used(0) && untouched(4));
+}
+
+/* Under 4 words; each word of the header changed; one record fewer than are used. */
+static void test_no_tape(void) {
+    const uint64_t wrong[4] = {ROOM + 1, 5, layout->record_words + 1, 1};
+    size_t word;
+    start_with_metric();
+    check_no_tape(0);
+    check_no_tape(3);
+    check_no_tape(WORDS - 1);
+    for (word = 0; word < 4; word++) {
+        start_with_metric();
+        tape[word] = wrong[word];
+        check_no_tape(WORDS);
+    }
+    CHECK(layout->nest_test(NULL, 0) == 0);
+}
+
+/* A tape of this layout is none of the other, until it is cleared there. */
+static void test_other_layout(void) {
+    const struct layout *own = layout;
+    start_with_metric();
+    layout = own == &USUAL ? &SLIM : &USUAL;
+    check_no_tape(LENT);
+    layout->clear(tape, LENT, numbers);
+    CHECK(gave(WAKKEMOSUT_DONE, 0, 0, 0) && used(0));
+    CHECK(layout->nest_test(tape, LENT) == 1);
+    layout = own;
+    check_no_tape(LENT);
 }
 
 static void test_push(void) {
     start();
-    push_metric(WAKKEMOSUT_REGISTRY_NEIGHBOR, BASE, WORDS);
+    push_neighbor(METRIC, sizeof METRIC, WORDS);
     CHECK(gave(WAKKEMOSUT_DONE, 5, 5, 5));
-    CHECK(used(5) && listed_from(0));
-    CHECK(untouched(WORDS, MORE_WORDS + 1));
+    CHECK(used(5) && listed_from(0) && untouched(WORDS));
 }
 
 /* A push after another, and one whose inner area is of another registry. */
 static void test_push_again(void) {
     const uint8_t capability[5] = {0x19, 0x03, 0x80, 0x00, 0x07};
+    const uint64_t flags[6] = {KIND(WAKKEMOSUT_LABEL_SRV6_FLAGS, WAKKEMOSUT_SHAPE_U16, 2), 102, 104, 32768, 0, 0};
+    const uint64_t array[6] = {KIND(WAKKEMOSUT_LABEL_SUB_TLVS, WAKKEMOSUT_SHAPE_ARRAY, 5), 104, 104, 0, 6, 6};
     start();
-    wakkemosut_push(METRIC, 1, BASE, WAKKEMOSUT_REGISTRY_NEIGHBOR, tape, MORE_WORDS, numbers);
+    push_neighbor(METRIC, 1, MORE_WORDS);
     CHECK(gave(WAKKEMOSUT_DONE, 0, 2, 2) && used(2));
-    push_metric(WAKKEMOSUT_REGISTRY_NEIGHBOR, BASE, MORE_WORDS);
+    push_neighbor(METRIC, sizeof METRIC, MORE_WORDS);
     CHECK(gave(WAKKEMOSUT_DONE, 5, 5, 5));
-    CHECK(used(7) && listed_from(2) && untouched(MORE_WORDS, MORE_WORDS + 1));
-    wakkemosut_clear(tape, MORE_WORDS, numbers);
-    wakkemosut_push(capability, sizeof capability, BASE, WAKKEMOSUT_REGISTRY_ROUTER_CAPABILITY, tape, MORE_WORDS, numbers);
+    CHECK(used(7) && listed_from(2) && untouched(MORE_WORDS));
+    layout->clear(tape, MORE_WORDS, numbers);
+    layout->push(capability, sizeof capability, BASE, WAKKEMOSUT_REGISTRY_ROUTER_CAPABILITY, tape, MORE_WORDS, numbers);
     CHECK(gave(WAKKEMOSUT_DONE, 5, 7, 7) && used(7));
-    CHECK(tape[WAKKEMOSUT_TAPE_WORDS(4) + WAKKEMOSUT_WORD_NUMBER] == 32768);
-    CHECK(WAKKEMOSUT_REGISTRY_OF(tape[WAKKEMOSUT_TAPE_WORDS(4)]) == WAKKEMOSUT_REGISTRY_ROUTER_CAPABILITY);
-    CHECK(WAKKEMOSUT_REGISTRY_OF(tape[WAKKEMOSUT_TAPE_WORDS(5)]) == WAKKEMOSUT_REGISTRY_UNREGISTERED);
-    CHECK(WAKKEMOSUT_REGISTRY_OF(tape[WAKKEMOSUT_TAPE_WORDS(6)]) == WAKKEMOSUT_REGISTRY_UNREGISTERED);
+    CHECK(stands(4, flags) && stands(5, array));
+    CHECK(WAKKEMOSUT_REGISTRY_OF(tape[words_for(4)]) == WAKKEMOSUT_REGISTRY_ROUTER_CAPABILITY);
+    CHECK(WAKKEMOSUT_REGISTRY_OF(tape[words_for(6)]) == WAKKEMOSUT_REGISTRY_UNREGISTERED);
 }
 
-/* Room 4; an empty area; octets that are no entry; room that other records use. */
+/* Room for 4, and a word too few for 5; an empty area; octets that are no entry; room that other records use. */
 static void test_push_room(void) {
     const uint8_t cut_off[4] = {0x12, 0x03, 0x00, 0x00};
+    const uint64_t array[6] = {KIND(WAKKEMOSUT_LABEL_SUB_TLVS, WAKKEMOSUT_SHAPE_ARRAY, 0), 100, 100, 0, 1, 1};
+    const uint64_t raw[6] = {KIND(WAKKEMOSUT_LABEL_RAW, WAKKEMOSUT_SHAPE_BYTES, 0), 100, 104, 0, 0, 0};
     start();
-    push_metric(WAKKEMOSUT_REGISTRY_NEIGHBOR, BASE, WAKKEMOSUT_TAPE_WORDS(4));
+    push_neighbor(METRIC, sizeof METRIC, words_for(4));
     CHECK(gave(WAKKEMOSUT_NO_ROOM, 0, 0, 5));
-    CHECK(used(0) && untouched(4, MORE_WORDS + 1));
-    wakkemosut_push(NULL, 0, BASE, WAKKEMOSUT_REGISTRY_NEIGHBOR, tape, WORDS, numbers);
-    CHECK(gave(WAKKEMOSUT_DONE, 0, 0, 0) && used(0) && untouched(4, MORE_WORDS + 1));
-    wakkemosut_push(cut_off, sizeof cut_off, BASE, WAKKEMOSUT_REGISTRY_NEIGHBOR, tape, WORDS, numbers);
+    push_neighbor(METRIC, sizeof METRIC, WORDS - 1);
+    CHECK(gave(WAKKEMOSUT_NO_ROOM, 0, 0, 5));
+    CHECK(used(0) && untouched(4));
+    push_neighbor(NULL, 0, WORDS);
+    CHECK(gave(WAKKEMOSUT_DONE, 0, 0, 0) && used(0) && untouched(4));
+    push_neighbor(cut_off, sizeof cut_off, WORDS);
     CHECK(gave(WAKKEMOSUT_DONE, 0, 2, 2) && used(2));
-    CHECK(tape[4 + WAKKEMOSUT_WORD_START] == 100 && tape[4 + WAKKEMOSUT_WORD_END] == 100);
-    CHECK(WAKKEMOSUT_LABEL_OF(tape[10]) == WAKKEMOSUT_LABEL_RAW && WAKKEMOSUT_SHAPE_OF(tape[10]) == WAKKEMOSUT_SHAPE_BYTES);
-    CHECK(tape[10 + WAKKEMOSUT_WORD_START] == 100 && tape[10 + WAKKEMOSUT_WORD_END] == 104 && untouched(16, MORE_WORDS + 1));
-    push_metric(WAKKEMOSUT_REGISTRY_NEIGHBOR, BASE, WORDS);
-    CHECK(gave(WAKKEMOSUT_NO_ROOM, 0, 0, 5) && used(2) && untouched(16, MORE_WORDS + 1));
+    CHECK(stands(0, array) && stands(1, raw) && untouched(words_for(2)));
+    CHECK(WAKKEMOSUT_LABEL_OF(tape[words_for(1)]) == WAKKEMOSUT_LABEL_RAW);
+    CHECK(WAKKEMOSUT_SHAPE_OF(tape[words_for(1)]) == WAKKEMOSUT_SHAPE_BYTES);
+    push_neighbor(METRIC, sizeof METRIC, WORDS);
+    CHECK(gave(WAKKEMOSUT_NO_ROOM, 0, 0, 5) && used(2) && untouched(words_for(2)));
 }
 
-static void test_push_refusals(void) {
+/* What a walk and a push refuse for the area's sake, and an area that ends as late as may be. */
+static void test_area(area_call *call) {
     static const uint8_t too_long[WAKKEMOSUT_LONGEST_AREA + 1];
     const uint8_t six[6] = {0x12, 0x04, 0x00, 0x00, 0x0A, 0x00};
+    const uint64_t array[6] = {LISTING[0][0], UINT64_C(4294967290), WAKKEMOSUT_HIGHEST_OCTET, 0, 1, 5};
     start();
-    push_metric(6, BASE, WORDS);
-    CHECK(gave(WAKKEMOSUT_NO_REGISTRY, 0, 0, 0));
-    wakkemosut_push(too_long, sizeof too_long, 0, WAKKEMOSUT_REGISTRY_NEIGHBOR, tape, WORDS, numbers);
-    CHECK(gave(WAKKEMOSUT_AREA_TOO_LONG, 0, 0, 0));
-    wakkemosut_push(six, sizeof six, UINT64_C(4294967290), WAKKEMOSUT_REGISTRY_NEIGHBOR, tape, WORDS, numbers);
-    CHECK(gave(WAKKEMOSUT_BASE_TOO_HIGH, 0, 0, 0));
-    push_metric(WAKKEMOSUT_REGISTRY_NEIGHBOR, UINT64_MAX, WORDS);
-    CHECK(gave(WAKKEMOSUT_BASE_TOO_HIGH, 0, 0, 0));
-    push_metric(WAKKEMOSUT_REGISTRY_NEIGHBOR, BASE, 3);
-    CHECK(gave(WAKKEMOSUT_NO_TAPE, 0, 0, 0));
-    CHECK(used(0) && untouched(4, MORE_WORDS + 1));
-    push_metric(WAKKEMOSUT_REGISTRY_NEIGHBOR, UINT64_C(4294967290), WORDS);
+    call(METRIC, sizeof METRIC, BASE, 6, tape, WORDS, numbers);
+    CHECK(refused(WAKKEMOSUT_NO_REGISTRY));
+    call(too_long, sizeof too_long, 0, WAKKEMOSUT_REGISTRY_NEIGHBOR, tape, WORDS, numbers);
+    CHECK(refused(WAKKEMOSUT_AREA_TOO_LONG));
+    call(six, sizeof six, UINT64_C(4294967290), WAKKEMOSUT_REGISTRY_NEIGHBOR, tape, WORDS, numbers);
+    CHECK(refused(WAKKEMOSUT_BASE_TOO_HIGH));
+    call(METRIC, sizeof METRIC, UINT64_MAX, WAKKEMOSUT_REGISTRY_NEIGHBOR, tape, WORDS, numbers);
+    CHECK(refused(WAKKEMOSUT_BASE_TOO_HIGH));
+    CHECK(used(0) && untouched(4));
+    call(METRIC, sizeof METRIC, UINT64_C(4294967290), WAKKEMOSUT_REGISTRY_NEIGHBOR, tape, WORDS, numbers);
     CHECK(gave(WAKKEMOSUT_DONE, 5, 5, 5));
-    CHECK(tape[4 + WAKKEMOSUT_WORD_END] == WAKKEMOSUT_HIGHEST_OCTET);
+    CHECK(used(5) && stands(0, array));
+    CHECK(reads(0, WORDS, array) && gave(WAKKEMOSUT_DONE, 0, 0, 0));
 }
 
 static void test_walk(void) {
     const uint8_t tail[6] = {0x12, 0x03, 0x00, 0x00, 0x0A, 0x12};
     start();
-    wakkemosut_walk(tail, sizeof tail, BASE, 6, tape, WORDS, numbers);
-    CHECK(gave(WAKKEMOSUT_NO_REGISTRY, 0, 0, 0));
-    wakkemosut_walk(tail, sizeof tail, BASE, WAKKEMOSUT_REGISTRY_NEIGHBOR, tape, WAKKEMOSUT_TAPE_WORDS(4), numbers);
-    CHECK(gave(WAKKEMOSUT_NO_ROOM, 0, 0, 5) && used(0) && untouched(4, MORE_WORDS + 1));
-    wakkemosut_walk(tail, sizeof tail, BASE, WAKKEMOSUT_REGISTRY_NEIGHBOR, tape, WORDS, numbers);
-    CHECK(gave(WAKKEMOSUT_DONE, 5, 5, 5) && used(5));
-    wakkemosut_clear(tape, WORDS, numbers);
-    wakkemosut_push(tail, sizeof tail, BASE, WAKKEMOSUT_REGISTRY_NEIGHBOR, tape, WORDS, numbers);
-    CHECK(gave(WAKKEMOSUT_NO_ROOM, 0, 0, 6) && used(0));
+    layout->walk(tail, sizeof tail, BASE, WAKKEMOSUT_REGISTRY_NEIGHBOR, tape, words_for(4), numbers);
+    CHECK(gave(WAKKEMOSUT_NO_ROOM, 0, 0, 5) && used(0) && untouched(4));
+    layout->walk(tail, sizeof tail, BASE, WAKKEMOSUT_REGISTRY_NEIGHBOR, tape, WORDS, numbers);
+    CHECK(gave(WAKKEMOSUT_DONE, 5, 5, 5));
+    CHECK(used(5) && listed_from(0) && untouched(WORDS));
+    start();
+    push_neighbor(tail, sizeof tail, WORDS);
+    CHECK(gave(WAKKEMOSUT_NO_ROOM, 0, 0, 6) && used(0) && untouched(4));
 }
 
 static void test_cut_back(void) {
-    start();
-    push_metric(WAKKEMOSUT_REGISTRY_NEIGHBOR, BASE, WORDS);
-    wakkemosut_cut_back(tape, WORDS, 6, numbers);
-    CHECK(gave(WAKKEMOSUT_PAST_COUNT, 0, 0, 0) && used(5));
-    wakkemosut_cut_back(tape, WORDS, 2, numbers);
-    CHECK(gave(WAKKEMOSUT_CUTS_CONTAINER, 0, 0, 0) && used(5));
-    wakkemosut_cut_back(tape, 3, 0, numbers);
-    CHECK(gave(WAKKEMOSUT_NO_TAPE, 0, 0, 0) && used(5));
-    wakkemosut_cut_back(tape, WORDS, 0, numbers);
-    CHECK(gave(WAKKEMOSUT_DONE, 0, 0, 0) && used(0));
-    CHECK(tape[WORDS - 3] == 10);
-}
-
-/* Whether a read of a position gives these six words and writes none after them. */
-static int reads(uint64_t at, const uint64_t wanted[6]) {
-    uint64_t record[7] = {1, 1, 1, 1, 1, 1, GUARD};
-    wakkemosut_read(tape, WORDS, at, record, numbers);
-    return memcmp(record, wanted, 6 * sizeof *wanted) == 0 && record[6] == GUARD;
+    start_with_metric();
+    layout->cut_back(tape, WORDS, 6, numbers);
+    CHECK(refused(WAKKEMOSUT_PAST_COUNT) && used(5));
+    layout->cut_back(tape, WORDS, 2, numbers);
+    CHECK(refused(WAKKEMOSUT_CUTS_CONTAINER) && used(5));
+    layout->cut_back(tape, WORDS, 5, numbers);
+    CHECK(gave(WAKKEMOSUT_DONE, 0, 0, 0) && used(5));
+    layout->cut_back(tape, WORDS, 0, numbers);
+    CHECK(gave(WAKKEMOSUT_DONE, 0, 0, 0));
+    CHECK(used(0) && listed_from(0) && untouched(WORDS));
 }
 
 static void test_read(void) {
-    const uint64_t zeros[6] = {0, 0, 0, 0, 0, 0};
     uint64_t at;
-    start();
-    push_metric(WAKKEMOSUT_REGISTRY_NEIGHBOR, BASE, WORDS);
-    CHECK(reads(5, zeros) && gave(WAKKEMOSUT_PAST_COUNT, 0, 0, 0));
-    for (at = 0; at < ROOM; at++) {
-        uint64_t wanted[6];
-        words_of(LISTING[at], wanted);
-        CHECK(reads(at, wanted) && gave(WAKKEMOSUT_DONE, 0, 0, 0));
-    }
-    tape[WAKKEMOSUT_TAPE_WORDS(4)] = 57;
-    CHECK(reads(4, zeros) && gave(WAKKEMOSUT_NO_RECORD, 0, 0, 0));
-    tape[WAKKEMOSUT_TAPE_ZERO] = 1;
-    CHECK(reads(0, zeros) && gave(WAKKEMOSUT_NO_TAPE, 0, 0, 0));
+    start_with_metric();
+    CHECK(reads(5, WORDS, ZEROS) && refused(WAKKEMOSUT_PAST_COUNT));
+    for (at = 0; at < ROOM; at++)
+        CHECK(reads(at, WORDS, LISTING[at]) && gave(WAKKEMOSUT_DONE, 0, 0, 0));
+    put_changed(4, WAKKEMOSUT_WORD_KIND, KIND(57, 0, 0));
+    CHECK(reads(4, WORDS, ZEROS) && refused(WAKKEMOSUT_NO_RECORD));
+    put_changed(4, WAKKEMOSUT_WORD_KIND, KIND(0, 9, 0));
+    CHECK(reads(4, WORDS, ZEROS) && refused(WAKKEMOSUT_NO_RECORD));
+    put_changed(4, WAKKEMOSUT_WORD_KIND, KIND(0, 0, 6));
+    CHECK(reads(4, WORDS, ZEROS) && refused(WAKKEMOSUT_NO_RECORD));
+    put_changed(4, WAKKEMOSUT_WORD_START, 106);
+    CHECK(reads(4, WORDS, ZEROS) && refused(WAKKEMOSUT_NO_RECORD));
 }
 
 static void test_nest_test(void) {
-    start();
-    push_metric(WAKKEMOSUT_REGISTRY_NEIGHBOR, BASE, WORDS);
-    CHECK(wakkemosut_nest_test(tape, WORDS) == 1);
-    CHECK(wakkemosut_nest_test(tape, WORDS - 1) == 0);
-    CHECK(wakkemosut_nest_test(NULL, 0) == 0);
-    tape[4 + WAKKEMOSUT_WORD_CHILDREN_END] = 6;
-    CHECK(wakkemosut_nest_test(tape, WORDS) == 0);
+    start_with_metric();
+    CHECK(layout->nest_test(tape, WORDS) == 1);
+    put_changed(0, WAKKEMOSUT_WORD_CHILDREN_END, 6);
+    CHECK(layout->nest_test(tape, WORDS) == 0);
+    put_changed(0, WAKKEMOSUT_WORD_FIRST_CHILD, 2);
+    CHECK(layout->nest_test(tape, WORDS) == 0);
+    start_with_metric();
+    put_changed(2, WAKKEMOSUT_WORD_CHILDREN_END, 3);
+    CHECK(layout->nest_test(tape, WORDS) == 0);
+}
+
+/* The calls on a tape, in the layout under test. */
+static void test_tape(void) {
+    test_clear();
+    test_no_tape();
+    test_other_layout();
+    test_push();
+    test_push_again();
+    test_push_room();
+    test_area(layout->push);
+    test_area(layout->walk);
+    test_walk();
+    test_cut_back();
+    test_read();
+    test_nest_test();
+}
+
+/* The third case on a slim tape, its words worked out by hand. */
+static void test_slim_words(void) {
+    static const uint64_t wanted[24] = {
+        5,      4,                      4,  0,                     /* header */
+        0x0704, UINT64_C(0x6900000064), 0,  UINT64_C(0x500000001), /* sub_tlvs, 100 to 105, 1 to 5 */
+        0x082F, UINT64_C(0x6900000064), 0,  UINT64_C(0x500000002), /* sub_tlv, 100 to 105, 2 to 5 */
+        0x0000, UINT64_C(0x6500000064), 18, 0,                     /* type, 100 to 101 */
+        0x0001, UINT64_C(0x6600000065), 3,  0,                     /* length, 101 to 102 */
+        0x020F, UINT64_C(0x6900000066), 10, 0};                    /* te_default_metric, 102 to 105 */
+    const uint64_t *object = tape + WAKKEMOSUT_SLIM_TAPE_WORDS(1);
+    start_with_metric();
+    CHECK(memcmp(tape, wanted, sizeof wanted) == 0 && untouched(24));
+    CHECK(WAKKEMOSUT_SLIM_START_OF(object[WAKKEMOSUT_SLIM_WORD_OCTETS]) == 100);
+    CHECK(WAKKEMOSUT_SLIM_END_OF(object[WAKKEMOSUT_SLIM_WORD_OCTETS]) == 105);
+    CHECK(WAKKEMOSUT_SLIM_START_OF(object[WAKKEMOSUT_SLIM_WORD_CHILDREN]) == 2);
+    CHECK(WAKKEMOSUT_SLIM_END_OF(object[WAKKEMOSUT_SLIM_WORD_CHILDREN]) == 5);
 }
 
 static void test_name(void) {
     uint8_t out[WAKKEMOSUT_LONGEST_NAME];
-    start();
+    fill();
     memset(out, GUARD_OCTET, sizeof out);
     wakkemosut_name(6, 18, out, sizeof out, numbers);
     CHECK(gave(WAKKEMOSUT_NO_REGISTRY, 0, 0, 0) && out[0] == GUARD_OCTET);
@@ -273,15 +453,11 @@ static void test_mask(void) {
 }
 
 int main(void) {
-    test_clear();
-    test_push();
-    test_push_again();
-    test_push_room();
-    test_push_refusals();
-    test_walk();
-    test_cut_back();
-    test_read();
-    test_nest_test();
+    layout = &USUAL;
+    test_tape();
+    layout = &SLIM;
+    test_tape();
+    test_slim_words();
     test_name();
     test_mask();
     printf("test.c: %u checks held\n", checks);

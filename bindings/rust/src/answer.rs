@@ -28,8 +28,8 @@ pub enum Refusal {
     AreaTooLong = 2,
     /// The area would end after octet 4,294,967,295.
     BaseTooHigh = 3,
-    /// What was lent is no tape: it has under 4 words, its header is not one, or it says that more
-    /// records are used than there is room for.
+    /// What was lent is no tape of the layout asked for: it has under 4 words, its header is not
+    /// one, or it says that more records are used than there is room for.
     NoTape = 4,
     /// There is less free room than the records need.
     NoRoom {

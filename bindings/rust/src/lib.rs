@@ -36,6 +36,10 @@
 //!
 //! It prints `TE Default metric: 10, at octets 102..105`.
 //!
+//! Where memory is short, a [`Slim`] tape holds the same records in two thirds of the words:
+//! [`Tape::slim_cleared`] and [`Tape::slim_words_for`] in the place of `cleared` and `words_for`
+//! are all that changes.
+//!
 //! # What is answered, and what cannot be asked
 //!
 //! No call has a condition that its caller must see to, and none panics: each is done, or refused
@@ -53,6 +57,7 @@ mod answer;
 #[allow(unsafe_code)]
 mod ffi;
 mod label;
+mod layout;
 mod numbered;
 mod record;
 mod registry;
@@ -61,6 +66,7 @@ mod trees;
 
 pub use answer::{Laid, Refusal};
 pub use label::Label;
+pub use layout::{Layout, Slim, Usual};
 pub use record::{Position, Record, Shape};
 pub use registry::{LONGEST_NAME, Registry, name};
 pub use tape::{LONGEST_AREA, Tape, most_records};

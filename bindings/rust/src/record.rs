@@ -6,8 +6,10 @@ use core::ops::Range;
 use crate::answer::Refusal;
 use crate::ffi;
 use crate::label::Label;
+use crate::layout::{Layout, Usual};
 use crate::numbered::numbered;
 use crate::registry::Registry;
+use crate::tape::Tape;
 use crate::trees::Trees;
 
 /// The place of a record on its tape, counted in records from 0. Places of octets are plain
@@ -39,7 +41,7 @@ numbered! {
     }
 }
 
-/// One record of a tape.
+/// One record of a tape. What it shows is the same in both layouts.
 ///
 /// It looks at its tape for its children. So the compiler refuses to clear the tape, to cut it back
 /// or to push onto it while a record of it is still in use, and no record can show what a later push
@@ -57,7 +59,7 @@ numbered! {
 /// # Ok::<(), wakkemosut::Refusal>(())
 /// ```
 #[derive(Clone)]
-pub struct Record<'tape> {
+pub struct Record<'tape, L: Layout = Usual> {
     /// Where it stands on the tape.
     pub position: Position,
     /// Which field it is.
@@ -72,14 +74,14 @@ pub struct Record<'tape> {
     pub number: u64,
     /// A container's first child and the position past its last descendant; 0 to 0 for a leaf.
     pub descendants: Range<Position>,
-    /// The words of the tape that it stands on.
-    tape: &'tape [u64],
+    /// The tape that it stands on.
+    tape: &'tape Tape<'tape, L>,
 }
 
-impl<'tape> Record<'tape> {
+impl<'tape, L: Layout> Record<'tape, L> {
     /// The record at a position of a tape.
-    pub(crate) fn read(tape: &'tape [u64], at: Position) -> Result<Self, Refusal> {
-        let (words, numbers) = ffi::read(tape, at.0);
+    pub(crate) fn read(tape: &'tape Tape<'tape, L>, at: Position) -> Result<Self, Refusal> {
+        let (words, numbers) = ffi::read::<L>(tape.words(), at.0);
         numbers.done()?;
         let [kind, start, end, number, first_child, descendants_end] = words;
         Ok(Self {
@@ -94,7 +96,7 @@ impl<'tape> Record<'tape> {
         })
     }
 
-    /// The six words that it is on the tape.
+    /// The six words that it is on a tape of the usual layout.
     pub const fn words(&self) -> [u64; 6] {
         let kind = self.label.number() + (self.shape.number() << 8);
         [
@@ -113,7 +115,7 @@ impl<'tape> Record<'tape> {
     }
 
     /// The children of a container, without what is inside them. A leaf has none.
-    pub fn children(&self) -> Trees<'tape> {
+    pub fn children(&self) -> Trees<'tape, L> {
         let Range { start, end } = self.descendants;
         if self.is_container() {
             Trees::between(self.tape, start, end)
@@ -144,7 +146,7 @@ impl<'tape> Record<'tape> {
     }
 }
 
-impl fmt::Debug for Record<'_> {
+impl<L: Layout> fmt::Debug for Record<'_, L> {
     fn fmt(&self, out: &mut fmt::Formatter<'_>) -> fmt::Result {
         let mut record = out.debug_struct("Record");
         record.field("position", &self.position);

@@ -1,16 +1,16 @@
 //! The tape, and the calls on it.
 
+use core::marker::PhantomData;
+
 use crate::answer::{Laid, Refusal};
 use crate::ffi::{self, Numbers};
+use crate::layout::{Layout, Slim, Usual};
 use crate::record::{Position, Record};
 use crate::registry::Registry;
 use crate::trees::Trees;
 
 /// The words of a tape's header.
 const HEADER: usize = 4;
-
-/// The words of a record.
-const RECORD: usize = 6;
 
 /// The most octets of an area.
 pub const LONGEST_AREA: usize = 65_535;
@@ -25,15 +25,20 @@ pub const fn most_records(octets: usize) -> usize {
 
 /// A tape: a header and records in words that the caller lends. The words hold all there is of it:
 /// a tape over words that another tape left has that one's records.
+///
+/// Its records lie in a [`Layout`]: the [`Usual`] one, or the [`Slim`] one, which takes two thirds
+/// of the memory. The calls are the same and give the same in both.
 #[derive(Debug)]
-pub struct Tape<'words> {
+pub struct Tape<'words, L: Layout = Usual> {
     words: &'words mut [u64],
+    layout: PhantomData<L>,
 }
 
-impl<'words> Tape<'words> {
+/// Tapes of the usual layout.
+impl<'words> Tape<'words, Usual> {
     /// The words of a tape with room for so many records.
     pub const fn words_for(records: usize) -> usize {
-        records.saturating_mul(RECORD).saturating_add(HEADER)
+        Self::words_in_layout(records)
     }
 
     /// A tape without records.
@@ -42,15 +47,80 @@ impl<'words> Tape<'words> {
     ///
     /// [`Refusal::NoTape`] for under 4 words.
     pub fn cleared(words: &'words mut [u64]) -> Result<Self, Refusal> {
-        let mut tape = Self::over(words);
-        tape.clear()?;
-        Ok(tape)
+        Self::cleared_in_layout(words)
     }
 
     /// The tape that these words are. They may be anything: where they are no tape, each call says
     /// so.
     pub fn over(words: &'words mut [u64]) -> Self {
-        Self { words }
+        Self::in_layout(words)
+    }
+}
+
+/// Tapes of the slim layout.
+impl<'words> Tape<'words, Slim> {
+    /// The words of a slim tape with room for so many records.
+    pub const fn slim_words_for(records: usize) -> usize {
+        Self::words_in_layout(records)
+    }
+
+    /// A slim tape without records.
+    ///
+    /// # Errors
+    ///
+    /// [`Refusal::NoTape`] for under 4 words.
+    pub fn slim_cleared(words: &'words mut [u64]) -> Result<Self, Refusal> {
+        Self::cleared_in_layout(words)
+    }
+
+    /// The slim tape that these words are. They may be anything: where they are no slim tape, each
+    /// call says so.
+    pub fn slim_over(words: &'words mut [u64]) -> Self {
+        Self::in_layout(words)
+    }
+}
+
+impl<'words, L: Layout> Tape<'words, L> {
+    /// As [`words_for`](Tape::words_for), in the layout that the type names: for callers that leave
+    /// it open.
+    ///
+    /// ```
+    /// use wakkemosut::{Layout, Refusal, Registry, Tape};
+    ///
+    /// /// The records that an area has, which is to fit a tape with room for ten.
+    /// fn records<L: Layout>(area: &[u8]) -> Result<u64, Refusal> {
+    ///     let mut words = vec![0; Tape::<L>::words_in_layout(10)];
+    ///     let mut tape = Tape::<L>::cleared_in_layout(&mut words)?;
+    ///     Ok(tape.push(Registry::Binding, 0, area)?.written)
+    /// }
+    ///
+    /// let area = [1, 3, 0, 0, 7];
+    /// assert_eq!(records::<wakkemosut::Usual>(&area), Ok(5));
+    /// assert_eq!(records::<wakkemosut::Slim>(&area), Ok(5));
+    /// ```
+    pub const fn words_in_layout(records: usize) -> usize {
+        records
+            .saturating_mul(L::RECORD_WORDS)
+            .saturating_add(HEADER)
+    }
+
+    /// As [`cleared`](Tape::cleared), in the layout that the type names.
+    ///
+    /// # Errors
+    ///
+    /// [`Refusal::NoTape`] for under 4 words.
+    pub fn cleared_in_layout(words: &'words mut [u64]) -> Result<Self, Refusal> {
+        let mut tape = Self::in_layout(words);
+        tape.clear()?;
+        Ok(tape)
+    }
+
+    /// As [`over`](Tape::over), in the layout that the type names.
+    pub fn in_layout(words: &'words mut [u64]) -> Self {
+        Self {
+            words,
+            layout: PhantomData,
+        }
     }
 
     /// Takes all records off. Only the header is written.
@@ -59,7 +129,7 @@ impl<'words> Tape<'words> {
     ///
     /// [`Refusal::NoTape`] for under 4 words.
     pub fn clear(&mut self) -> Result<(), Refusal> {
-        ffi::clear(self.words).done().map(|_| ())
+        ffi::clear::<L>(self.words).done().map(|_| ())
     }
 
     /// Appends the records of an area's complete entries. The area's first octet is at place
@@ -70,7 +140,7 @@ impl<'words> Tape<'words> {
     /// [`Refusal::AreaTooLong`], [`Refusal::BaseTooHigh`], [`Refusal::NoTape`] or
     /// [`Refusal::NoRoom`], looked for in this order.
     pub fn walk(&mut self, registry: Registry, base: u64, area: &[u8]) -> Result<Laid, Refusal> {
-        laid(ffi::walk(self.words, registry.number(), base, area))
+        laid(ffi::walk::<L>(self.words, registry.number(), base, area))
     }
 
     /// Appends what the [walk](Self::walk) does, and beside it a [`Raw`](crate::Label::Raw) record
@@ -92,7 +162,7 @@ impl<'words> Tape<'words> {
     /// # Ok::<(), Refusal>(())
     /// ```
     pub fn push(&mut self, registry: Registry, base: u64, area: &[u8]) -> Result<Laid, Refusal> {
-        laid(ffi::push(self.words, registry.number(), base, area))
+        laid(ffi::push::<L>(self.words, registry.number(), base, area))
     }
 
     /// The position at which the next record will stand: the count of records, as the header has
@@ -122,7 +192,7 @@ impl<'words> Tape<'words> {
     /// # Ok::<(), Refusal>(())
     /// ```
     pub fn cut_back(&mut self, mark: Position) -> Result<(), Refusal> {
-        ffi::cut_back(self.words, mark.0).done().map(|_| ())
+        ffi::cut_back::<L>(self.words, mark.0).done().map(|_| ())
     }
 
     /// The record at a position.
@@ -131,20 +201,20 @@ impl<'words> Tape<'words> {
     ///
     /// [`Refusal::NoTape`], [`Refusal::PastCount`] or [`Refusal::NoRecord`], looked for in this
     /// order.
-    pub fn read(&self, at: Position) -> Result<Record<'_>, Refusal> {
-        Record::read(self.words, at)
+    pub fn read(&self, at: Position) -> Result<Record<'_, L>, Refusal> {
+        Record::read(self, at)
     }
 
     /// Whether the records split into trees, their containers at most 4 deep. They do after any
     /// call on a tape on which they did before, and on a tape that was cleared.
     pub fn nests(&self) -> bool {
-        ffi::nest_test(self.words)
+        ffi::nest_test::<L>(self.words)
     }
 
     /// The records at the top from a position on: those that a walk or push appended there, and
     /// after them those of later ones, without what is inside them.
-    pub fn trees_from(&self, position: Position) -> Trees<'_> {
-        Trees::between(self.words, position, self.mark())
+    pub fn trees_from(&self, position: Position) -> Trees<'_, L> {
+        Trees::between(self, position, self.mark())
     }
 
     /// All words of the tape.

@@ -4,7 +4,9 @@ use core::fmt;
 use core::iter::FusedIterator;
 
 use crate::answer::Refusal;
+use crate::layout::{Layout, Usual};
 use crate::record::{Position, Record};
+use crate::tape::Tape;
 
 /// Records beside each other: those at the top of a tape, or the children of a container.
 ///
@@ -12,21 +14,21 @@ use crate::record::{Position, Record};
 /// wrote does so. On words from elsewhere too each record stands later on the tape than the one
 /// before, so that every row ends.
 #[derive(Clone)]
-pub struct Trees<'tape> {
-    tape: &'tape [u64],
+pub struct Trees<'tape, L: Layout = Usual> {
+    tape: &'tape Tape<'tape, L>,
     next: Position,
     end: Position,
 }
 
-impl<'tape> Trees<'tape> {
+impl<'tape, L: Layout> Trees<'tape, L> {
     /// Those between two positions of a tape.
-    pub(crate) fn between(tape: &'tape [u64], next: Position, end: Position) -> Self {
+    pub(crate) fn between(tape: &'tape Tape<'tape, L>, next: Position, end: Position) -> Self {
         Self { tape, next, end }
     }
 }
 
-impl<'tape> Iterator for Trees<'tape> {
-    type Item = Result<Record<'tape>, Refusal>;
+impl<'tape, L: Layout> Iterator for Trees<'tape, L> {
+    type Item = Result<Record<'tape, L>, Refusal>;
 
     fn next(&mut self) -> Option<Self::Item> {
         if self.next >= self.end {
@@ -41,9 +43,9 @@ impl<'tape> Iterator for Trees<'tape> {
     }
 }
 
-impl FusedIterator for Trees<'_> {}
+impl<L: Layout> FusedIterator for Trees<'_, L> {}
 
-impl fmt::Debug for Trees<'_> {
+impl<L: Layout> fmt::Debug for Trees<'_, L> {
     fn fmt(&self, out: &mut fmt::Formatter<'_>) -> fmt::Result {
         let mut trees = out.debug_struct("Trees");
         trees.field("next", &self.next).field("end", &self.end);
@@ -52,7 +54,7 @@ impl fmt::Debug for Trees<'_> {
 }
 
 /// The position past a record and all that is inside it.
-fn past(record: &Record<'_>) -> Position {
+fn past<L: Layout>(record: &Record<'_, L>) -> Position {
     let next = Position(record.position.0 + 1);
     if record.is_container() {
         next.max(record.descendants.end)

@@ -3,7 +3,9 @@
 
 use std::fmt::Debug;
 
-use wakkemosut::{LONGEST_AREA, LONGEST_NAME, Label, Refusal, Registry, Shape};
+use wakkemosut::{
+    LONGEST_AREA, LONGEST_NAME, Label, Layout, Refusal, Registry, Shape, Slim, Usual,
+};
 
 /// The C header.
 const HEADER: &str = include_str!("../../../include/wakkemosut.h");
@@ -155,6 +157,14 @@ fn limits_of_the_header_are_those_of_the_wrapper() {
     assert_eq!(limit("LONGEST_AREA"), LONGEST_AREA.to_string());
     assert_eq!(limit("LONGEST_NAME"), LONGEST_NAME.to_string());
     assert_eq!(limit("HIGHEST_OCTET"), u32::MAX.to_string());
+}
+
+#[test]
+fn records_of_the_header_are_as_wide_as_those_of_the_wrapper() {
+    let words = header("tape", "WAKKEMOSUT_");
+    let width = |name: &str| words.iter().find(|(case, _)| case == name).expect(name).1 as usize;
+    assert_eq!(width("RECORD_WORDS"), Usual::RECORD_WORDS);
+    assert_eq!(width("SLIM_RECORD_WORDS"), Slim::RECORD_WORDS);
 }
 
 #[test]

@@ -1,108 +1,123 @@
-//! Every refusal that the wrapper's types let through, and what it leaves.
+//! Every refusal that the wrapper's types let through, in both layouts, and what it leaves.
 
+mod shared;
+
+use shared::{in_both_layouts, put};
 use wakkemosut::{
-    LONGEST_AREA, LONGEST_NAME, Position, Refusal, Registry, Tape, most_records, name,
+    LONGEST_AREA, LONGEST_NAME, Layout, Position, Refusal, Registry, Tape, most_records, name,
 };
 
-/// The words of a tape with the records of a metric of 10 at base 100.
-fn metric() -> [u64; Tape::words_for(5)] {
-    let mut words = [0; Tape::words_for(5)];
-    let mut tape = Tape::cleared(&mut words).unwrap();
+/// The words of a tape with the records of a metric of 10 at base 100, and no more room.
+fn metric<L: Layout>() -> Vec<u64> {
+    let mut words = vec![0; Tape::<L>::words_in_layout(5)];
+    let mut tape = Tape::<L>::cleared_in_layout(&mut words).unwrap();
     let area = [0x12, 0x03, 0x00, 0x00, 0x0A];
     tape.push(Registry::Neighbor, 100, &area).unwrap();
     words
 }
 
 /// Asserts that a call on these words is refused so, and leaves them as they are.
-fn assert_refused<Given>(
+fn assert_refused<L: Layout, Given>(
     words: &[u64],
     refusal: Refusal,
-    call: impl Fn(&mut Tape<'_>) -> Result<Given, Refusal>,
+    call: impl Fn(&mut Tape<'_, L>) -> Result<Given, Refusal>,
 ) {
     let mut lent = words.to_vec();
-    let mut tape = Tape::over(&mut lent);
+    let mut tape = Tape::in_layout(&mut lent);
     assert_eq!(call(&mut tape).err(), Some(refusal), "of {words:?}");
     assert_eq!(lent, words, "after {refusal}");
 }
 
 /// Asserts that a walk and a push are refused so, and leave the words as they are.
-fn assert_area_refused(words: &[u64], refusal: Refusal, base: u64, area: &[u8]) {
+fn assert_area_refused<L: Layout>(words: &[u64], refusal: Refusal, base: u64, area: &[u8]) {
     for registry in Registry::ALL {
-        assert_refused(words, refusal, |tape| tape.walk(*registry, base, area));
-        assert_refused(words, refusal, |tape| tape.push(*registry, base, area));
+        assert_refused::<L, _>(words, refusal, |tape| tape.walk(*registry, base, area));
+        assert_refused::<L, _>(words, refusal, |tape| tape.push(*registry, base, area));
     }
 }
 
-#[test]
-fn an_area_over_65_535_octets_is_refused() {
+in_both_layouts! {
+    an_area_over_65_535_octets_is_refused,
+    an_area_past_32_bits_is_refused,
+    words_that_are_no_tape_are_refused,
+    records_without_room_are_refused,
+    positions_past_the_count_are_refused,
+    a_cut_through_a_container_is_refused,
+    words_that_are_no_record_are_refused,
+}
+
+fn an_area_over_65_535_octets_is_refused<L: Layout>() {
     let area = vec![0; LONGEST_AREA + 1];
-    let mut words = vec![0; Tape::words_for(most_records(area.len()))];
-    Tape::cleared(&mut words).unwrap();
-    assert_area_refused(&words, Refusal::AreaTooLong, 0, &area);
-    let mut tape = Tape::over(&mut words);
+    let mut words = vec![0; Tape::<L>::words_in_layout(most_records(area.len()))];
+    Tape::<L>::cleared_in_layout(&mut words).unwrap();
+    assert_area_refused::<L>(&words, Refusal::AreaTooLong, 0, &area);
+    let mut tape = Tape::<L>::in_layout(&mut words);
     let push = tape.push(Registry::Unregistered, 0, &area[1..]);
     assert_eq!(push.map(|laid| laid.covered), Ok(65_534));
 }
 
-#[test]
-fn an_area_past_32_bits_is_refused() {
+fn an_area_past_32_bits_is_refused<L: Layout>() {
     for base in [4_294_967_295, 4_294_967_296, u64::MAX - 1, u64::MAX] {
-        assert_area_refused(&metric(), Refusal::BaseTooHigh, base, &[0]);
+        assert_area_refused::<L>(&metric::<L>(), Refusal::BaseTooHigh, base, &[0]);
     }
 }
 
-#[test]
-fn words_that_are_no_tape_are_refused() {
-    let mut words = metric();
+fn words_that_are_no_tape_are_refused<L: Layout>() {
+    let mut words = metric::<L>();
     words[3] = 1;
     for words in [&words[..], &words[..3], &[], &[u64::MAX; 40]] {
-        assert_area_refused(words, Refusal::NoTape, 100, &[]);
-        assert_refused(words, Refusal::NoTape, |tape| tape.cut_back(Position(0)));
-        let read = |tape: &mut Tape<'_>| tape.read(Position(0)).map(|record| record.number);
-        assert_refused(words, Refusal::NoTape, read);
-        assert!(!Tape::over(&mut words.to_vec()).nests());
+        assert_area_refused::<L>(words, Refusal::NoTape, 100, &[]);
+        assert_refused::<L, _>(words, Refusal::NoTape, |tape| tape.cut_back(Position(0)));
+        let read = |tape: &mut Tape<'_, L>| tape.read(Position(0)).map(|record| record.number);
+        assert_refused::<L, _>(words, Refusal::NoTape, read);
+        assert!(!Tape::<L>::in_layout(&mut words.to_vec()).nests());
     }
-    assert_refused(&words[..3], Refusal::NoTape, |tape| tape.clear());
-    assert_eq!(Tape::cleared(&mut [0; 3]).err(), Some(Refusal::NoTape));
+    assert_refused::<L, _>(&words[..3], Refusal::NoTape, |tape| tape.clear());
+    let cleared = Tape::<L>::cleared_in_layout(&mut [0; 3]).err();
+    assert_eq!(cleared, Some(Refusal::NoTape));
 }
 
-#[test]
-fn records_without_room_are_refused() {
+fn records_without_room_are_refused<L: Layout>() {
     let needed = |needed| Refusal::NoRoom { needed };
     for registry in Registry::ALL {
         let area = [0xFF, 0x01, 0x00, 0xFF];
-        assert_refused(&metric(), needed(5), |tape| tape.walk(*registry, 0, &area));
-        assert_refused(&metric(), needed(6), |tape| tape.push(*registry, 0, &area));
+        assert_refused::<L, _>(&metric::<L>(), needed(5), |tape| {
+            tape.walk(*registry, 0, &area)
+        });
+        assert_refused::<L, _>(&metric::<L>(), needed(6), |tape| {
+            tape.push(*registry, 0, &area)
+        });
     }
 }
 
-#[test]
-fn positions_past_the_count_are_refused() {
+fn positions_past_the_count_are_refused<L: Layout>() {
     for past in [1, 2, u64::MAX - 5] {
         let mark = Position(5 + past);
-        assert_refused(&metric(), Refusal::PastCount, |tape| tape.cut_back(mark));
+        assert_refused::<L, _>(&metric::<L>(), Refusal::PastCount, |tape| {
+            tape.cut_back(mark)
+        });
     }
     for at in [5, 6, u64::MAX] {
-        let read = |tape: &mut Tape<'_>| tape.read(Position(at)).map(|record| record.number);
-        assert_refused(&metric(), Refusal::PastCount, read);
+        let read = |tape: &mut Tape<'_, L>| tape.read(Position(at)).map(|record| record.number);
+        assert_refused::<L, _>(&metric::<L>(), Refusal::PastCount, read);
     }
 }
 
-#[test]
-fn a_cut_through_a_container_is_refused() {
+fn a_cut_through_a_container_is_refused<L: Layout>() {
     for mark in 1..5 {
-        let cut = |tape: &mut Tape<'_>| tape.cut_back(Position(mark));
-        assert_refused(&metric(), Refusal::CutsContainer, cut);
+        let cut = |tape: &mut Tape<'_, L>| tape.cut_back(Position(mark));
+        assert_refused::<L, _>(&metric::<L>(), Refusal::CutsContainer, cut);
     }
 }
 
-#[test]
-fn words_that_are_no_record_are_refused() {
+fn words_that_are_no_record_are_refused<L: Layout>() {
     for (word, wrong) in [(0, 57), (0, 9 << 8), (0, 6 << 16), (1, 106), (2, 101)] {
-        let mut words = metric();
-        words[4 + 4 * 6 + word] = wrong;
-        let read = |tape: &mut Tape<'_>| tape.read(Position(4)).map(|record| record.number);
-        assert_refused(&words, Refusal::NoRecord, read);
+        let mut record = [15 + 256 * 2, 102, 105, 10, 0, 0];
+        record[word] = wrong;
+        let mut words = metric::<L>();
+        put::<L>(&mut words, 4, record);
+        let read = |tape: &mut Tape<'_, L>| tape.read(Position(4)).map(|record| record.number);
+        assert_refused::<L, _>(&words, Refusal::NoRecord, read);
     }
 }
 

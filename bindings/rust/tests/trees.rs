@@ -1,6 +1,9 @@
-//! Going over the records of a tape.
+//! Going over the records of a tape, in both layouts.
 
-use wakkemosut::{Label, Position, Record, Refusal, Registry, Tape, most_records};
+mod shared;
+
+use shared::{in_both_layouts, put};
+use wakkemosut::{Label, Layout, Position, Record, Refusal, Registry, Tape, most_records};
 
 /// A prefix with an SRv6 End SID whose structure is inside, an entry of no meaning and a tail.
 const AREA: [u8; 35] = [
@@ -10,21 +13,24 @@ const AREA: [u8; 35] = [
 ];
 
 /// A tape's words with room for the area twice, the area pushed onto it once.
-fn pushed() -> Vec<u64> {
-    let mut words = vec![u64::MAX; Tape::words_for(2 * most_records(AREA.len()))];
-    let mut tape = Tape::cleared(&mut words).unwrap();
+fn pushed<L: Layout>() -> Vec<u64> {
+    let room = 2 * most_records(AREA.len());
+    let mut words = vec![u64::MAX; Tape::<L>::words_in_layout(room)];
+    let mut tape = Tape::<L>::cleared_in_layout(&mut words).unwrap();
     tape.push(Registry::Prefix, 0, &AREA).unwrap();
     words
 }
 
 /// The positions of records.
-fn positions<'tape>(records: impl Iterator<Item = Result<Record<'tape>, Refusal>>) -> Vec<u64> {
+fn positions<'tape, L: Layout>(
+    records: impl Iterator<Item = Result<Record<'tape, L>, Refusal>>,
+) -> Vec<u64> {
     records.map(|record| record.unwrap().position.0).collect()
 }
 
 /// The positions of all records inside these, in the order of going down.
-fn all_inside<'tape>(
-    records: impl Iterator<Item = Result<Record<'tape>, Refusal>>,
+fn all_inside<'tape, L: Layout>(
+    records: impl Iterator<Item = Result<Record<'tape, L>, Refusal>>,
     found: &mut Vec<u64>,
 ) {
     for record in records.map(Result::unwrap) {
@@ -33,10 +39,20 @@ fn all_inside<'tape>(
     }
 }
 
-#[test]
-fn children_do_not_count_what_is_inside_them() {
-    let mut words = pushed();
-    let tape = Tape::over(&mut words);
+in_both_layouts! {
+    children_do_not_count_what_is_inside_them,
+    going_down_finds_every_record_once_and_in_order,
+    trees_start_where_they_are_asked_to,
+    a_record_finds_its_octets,
+    a_record_that_cannot_be_read_ends_the_row,
+    a_row_ends_on_any_words,
+    a_leaf_has_no_children_whatever_its_words,
+    what_is_cut_off_makes_room,
+}
+
+fn children_do_not_count_what_is_inside_them<L: Layout>() {
+    let mut words = pushed::<L>();
+    let tape = Tape::<L>::in_layout(&mut words);
     assert_eq!(positions(tape.trees_from(Position(0))), [0, 19]);
     let array = tape.read(Position(0)).unwrap();
     assert_eq!(positions(array.children()), [1, 15]);
@@ -48,20 +64,18 @@ fn children_do_not_count_what_is_inside_them() {
     assert_eq!(tape.read(Position(2)).unwrap().children().count(), 0);
 }
 
-#[test]
-fn going_down_finds_every_record_once_and_in_order() {
-    let mut words = pushed();
-    let mut tape = Tape::over(&mut words);
+fn going_down_finds_every_record_once_and_in_order<L: Layout>() {
+    let mut words = pushed::<L>();
+    let mut tape = Tape::<L>::in_layout(&mut words);
     tape.push(Registry::Prefix, 500, &AREA).unwrap();
     let mut found = Vec::new();
     all_inside(tape.trees_from(Position(0)), &mut found);
     assert!(found.into_iter().eq(0..40));
 }
 
-#[test]
-fn trees_start_where_they_are_asked_to() {
-    let mut words = pushed();
-    let mut tape = Tape::over(&mut words);
+fn trees_start_where_they_are_asked_to<L: Layout>() {
+    let mut words = pushed::<L>();
+    let mut tape = Tape::<L>::in_layout(&mut words);
     let mark = tape.mark();
     assert_eq!(tape.trees_from(mark).count(), 0);
     tape.push(Registry::Prefix, 500, &AREA).unwrap();
@@ -70,10 +84,9 @@ fn trees_start_where_they_are_asked_to() {
     assert!(octets.eq([500..533, 533..535]));
 }
 
-#[test]
-fn a_record_finds_its_octets() {
-    let mut words = pushed();
-    let tape = Tape::over(&mut words);
+fn a_record_finds_its_octets<L: Layout>() {
+    let mut words = pushed::<L>();
+    let tape = Tape::<L>::in_layout(&mut words);
     let raw = tape.read(Position(19)).unwrap();
     assert_eq!(raw.label, Label::Raw);
     assert_eq!(raw.octets_in(&AREA, 0), Some(&AREA[33..]));
@@ -82,11 +95,10 @@ fn a_record_finds_its_octets() {
     assert_eq!(raw.octets_in(&AREA, u64::MAX), None);
 }
 
-#[test]
-fn a_record_that_cannot_be_read_ends_the_row() {
-    let mut words = pushed();
-    words[4 + 6 * 3] = 57;
-    let tape = Tape::over(&mut words);
+fn a_record_that_cannot_be_read_ends_the_row<L: Layout>() {
+    let mut words = pushed::<L>();
+    words[Tape::<L>::words_in_layout(3)] = 57;
+    let tape = Tape::<L>::in_layout(&mut words);
     let entry = tape.read(Position(1)).unwrap();
     let children: Vec<_> = entry.children().collect();
     assert_eq!(children.len(), 2);
@@ -94,13 +106,13 @@ fn a_record_that_cannot_be_read_ends_the_row() {
     assert_eq!(children[1].as_ref().err(), Some(&Refusal::NoRecord));
 }
 
-#[test]
-fn a_row_ends_on_any_words() {
-    for wrong in [0, 1, 2, 19, 20, 21, u64::MAX - 1, u64::MAX] {
-        for word in 0..120 {
-            let mut words = pushed();
-            words[4 + word] = wrong;
-            let tape = Tape::over(&mut words);
+fn a_row_ends_on_any_words<L: Layout>() {
+    let low = [0, 1, 2, 19, 20, 21, u64::MAX - 1, u64::MAX];
+    for wrong in low.into_iter().chain(low.map(|word| word << 32)) {
+        for word in 4..Tape::<L>::words_in_layout(20) {
+            let mut words = pushed::<L>();
+            words[word] = wrong;
+            let tape = Tape::<L>::in_layout(&mut words);
             assert!(tape.trees_from(Position(0)).take(21).count() <= 20);
             for record in (0..20).flat_map(|at| tape.read(Position(at))) {
                 let children = record.children().take(21).count();
@@ -110,21 +122,18 @@ fn a_row_ends_on_any_words() {
     }
 }
 
-#[test]
-fn a_leaf_has_no_children_whatever_its_words() {
-    let mut words = pushed();
-    words[4 + 6 * 2 + 4] = 3;
-    words[4 + 6 * 2 + 5] = 20;
-    let tape = Tape::over(&mut words);
+fn a_leaf_has_no_children_whatever_its_words<L: Layout>() {
+    let mut words = pushed::<L>();
+    put::<L>(&mut words, 2, [65_536, 0, 1, 5, 3, 20]);
+    let tape = Tape::<L>::in_layout(&mut words);
     let leaf = tape.read(Position(2)).unwrap();
     assert_eq!(leaf.descendants, Position(3)..Position(20));
     assert_eq!(leaf.children().count(), 0);
 }
 
-#[test]
-fn what_is_cut_off_makes_room() {
-    let mut words = [0; Tape::words_for(20)];
-    let mut tape = Tape::cleared(&mut words).unwrap();
+fn what_is_cut_off_makes_room<L: Layout>() {
+    let mut words = vec![0; Tape::<L>::words_in_layout(20)];
+    let mut tape = Tape::<L>::cleared_in_layout(&mut words).unwrap();
     for _ in 0..3 {
         tape.push(Registry::Prefix, 0, &AREA).unwrap();
         assert_eq!(tape.mark(), Position(20));
