@@ -128,7 +128,8 @@ module _ (slim : Bool) (shows : Walk) (registry : Registry) (area : List ℕ) (b
 module _ (P : After → Type 0) (slim : Bool) (shows : Walk) (area : List ℕ) (base : ℕ) (t : List ℕ)
     (refuses : (answer : ℕ) → P (refusal answer t))
     (lacks : (registry : Registry) → P (record { outcome = noRoom (size (shows (numberOf registry) area base)); lent = t }))
-    (finishes : (registry : Registry) → base + length area ≤ 4294967295 → headed slim t ≡ true → size (shows (numberOf registry) area base) ≤ room slim t - used t → P (shown slim (covered area) (shows (numberOf registry) area base) t)) where
+    (finishes : (registry : Registry) → base + length area ≤ 4294967295 → headed slim t ≡ true → size (shows (numberOf registry) area base) ≤ room slim t - used t
+    → P (shown slim (covered area) (shows (numberOf registry) area base) t)) where
   cases-fitted : (registry : Registry) → base + length area ≤ 4294967295 → headed slim t ≡ true → P (fitted slim (covered area) (shows (numberOf registry) area base) t)
   unfolding fitted
   cases-fitted registry near good = go (leb (size (shows (numberOf registry) area base)) (room slim t - used t)) refl
@@ -143,7 +144,8 @@ module _ (P : After → Type 0) (slim : Bool) (shows : Walk) (area : List ℕ) (
   cases-in Unknown = refuses 1
   cases-in (Known registry) = go (leb (length area) longest) (leb (base + length area) furthest) refl (headed slim t) refl
     where
-      go : (a b : Bool) → leb (base + length area) furthest ≡ b → (c : Bool) → headed slim t ≡ c → P (cond a (cond b (cond c (fitted slim (covered area) (shows (numberOf registry) area base) t) (refusal 4 t)) (refusal 3 t)) (refusal 2 t))
+      go : (a b : Bool) → leb (base + length area) furthest ≡ b → (c : Bool) → headed slim t ≡ c
+          → P (cond a (cond b (cond c (fitted slim (covered area) (shows (numberOf registry) area base) t) (refusal 4 t)) (refusal 3 t)) (refusal 2 t))
       go false b near c is = refuses 2
       go true false near c is = refuses 3
       go true true near false is = refuses 4
@@ -169,13 +171,22 @@ module _ (slim : Bool) (shows : Walk) (area : List ℕ) (base : ℕ) (t : List �
       answer : {after : After} → areaCall slim shows (numberOf registry) area base t ≡ after → 0 ≡ after .outcome .answer
       answer e = sym zero′ ∙ ap (λ (a : After). a .outcome .answer) e
 
-      go : Dec (length area ≤ 65535) → Dec (base + length area ≤ 4294967295) → (b : Bool) → headed slim t ≡ b → Dec (size (shows (numberOf registry) area base) ≤ room slim t - used t) → Done slim shows (numberOf registry) area base t
+      go : Dec (length area ≤ 65535) → Dec (base + length area ≤ 4294967295) → (b : Bool) → headed slim t ≡ b
+          → Dec (size (shows (numberOf registry) area base) ≤ room slim t - used t) → Done slim shows (numberOf registry) area base t
       go (no long) near b is fits = absurd (omega (arith, answer (call-2 slim shows registry area base t (omega arith))))
       go (yes short) (no far) b is fits = absurd (omega (arith, answer (call-3 slim shows registry area base t short (omega arith))))
       go (yes short) (yes near) false is fits = absurd (omega (arith, answer (call-4 slim shows registry area base t short near is)))
-      go (yes short) (yes near) true is (no less) = absurd (omega (arith, answer (accepted slim shows registry area base t short near is ∙ fitted-5 slim (covered area) (shows (numberOf registry) area base) t (omega arith))))
+      go (yes short) (yes near) true is (no less) =
+          absurd (omega (arith, answer (accepted slim shows registry area base t short near is ∙ fitted-5 slim (covered area) (shows (numberOf registry) area base) t (omega arith))))
       go (yes short) (yes near) true is (yes fits) =
-          record { known = number-low registry; short = short; near = near; good = is; fits = fits; is = accepted slim shows registry area base t short near is ∙ fitted-0 slim (covered area) (shows (numberOf registry) area base) t fits }
+          record {
+            known = number-low registry;
+            short = short;
+            near = near;
+            good = is;
+            fits = fits;
+            is = accepted slim shows registry area base t short near is ∙ fitted-0 slim (covered area) (shows (numberOf registry) area base) t fits;
+          }
 
   pub call-done : (registry : ℕ) → areaCall slim shows registry area base t .outcome .answer ≡ 0 → Done slim shows registry area base t
   call-done registry zero′ = go (decLe 6 registry)

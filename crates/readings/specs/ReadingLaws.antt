@@ -34,7 +34,8 @@ module _ (registry k r : ℕ) (v : List ℕ) (base : ℕ) (row : OneRow registry
   row-is : readingOf r v base (usual registry k v) ≡ given (leastIn table registry k) v (readingOf r v base (fieldsIn table registry k))
   row-is = ap (readingOf r v base) row ∙ given-fields r v base (leb (leastIn table registry k) (length v)) (fieldsIn table registry k)
 
-  pub row-given : {slim : Bool} {t u : List ℕ} {at : ℕ} {d : Decoded} → Reads slim (given (leastIn table registry k) v (readingOf r v base (fieldsIn table registry k))) t u at d → Reads slim (readingOf r v base (usual registry k v)) t u at d
+  pub row-given : {slim : Bool} {t u : List ℕ} {at : ℕ} {d : Decoded}
+      → Reads slim (given (leastIn table registry k) v (readingOf r v base (fieldsIn table registry k))) t u at d → Reads slim (readingOf r v base (usual registry k v)) t u at d
   row-given h = reads-as row-is h
 
   -- the value is too short
@@ -46,14 +47,17 @@ module _ (registry k r : ℕ) (v : List ℕ) (base : ℕ) (row : OneRow registry
   row-fields long = row-is ∙ rw (le-leb (leastIn table registry k) (length v) long)
 
   -- it is long enough
-  pub row-long : {slim : Bool} {t u : List ℕ} {at : ℕ} {d : Decoded} → leastIn table registry k ≤ length v → Reads slim (readingOf r v base (fieldsIn table registry k)) t u at d → Reads slim (readingOf r v base (usual registry k v)) t u at d
+  pub row-long : {slim : Bool} {t u : List ℕ} {at : ℕ} {d : Decoded} → leastIn table registry k ≤ length v
+      → Reads slim (readingOf r v base (fieldsIn table registry k)) t u at d → Reads slim (readingOf r v base (usual registry k v)) t u at d
   row-long long h = reads-as (row-fields long) h
 
 -- a value of type k
-pub of-type : (registry k kind : ℕ) (v : List ℕ) (base : ℕ) {slim : Bool} {t u : List ℕ} {at : ℕ} {d : Decoded} → kind ≡ k → Reads slim (readingOf registry v base (usual registry k v)) t u at d → Reads slim (reading registry kind v base) t u at d
+pub of-type : (registry k kind : ℕ) (v : List ℕ) (base : ℕ) {slim : Bool} {t u : List ℕ} {at : ℕ} {d : Decoded} → kind ≡ k
+    → Reads slim (readingOf registry v base (usual registry k v)) t u at d → Reads slim (reading registry kind v base) t u at d
 of-type registry k kind v base is h = reads-as (ap (λ (n : ℕ). reading registry n v base) is) h
 
 -- a type that the table does not list
-pub of-unknown : (registry kind : ℕ) (v : List ℕ) (base : ℕ) {slim : Bool} {t : List ℕ} {at : Position} → NoneOf kind (typesOf registry table) → Reads slim (reading registry kind v base) t t (at .0) (record { taken = Nothing; next = at })
+pub of-unknown : (registry kind : ℕ) (v : List ℕ) (base : ℕ) {slim : Bool} {t : List ℕ} {at : Position} → NoneOf kind (typesOf registry table)
+    → Reads slim (reading registry kind v base) t t (at .0) (record { taken = Nothing; next = at })
 unfolding readingOf
 of-unknown registry kind v base none = reads-as (ap (readingOf registry v base) (usual-unknown registry kind v none)) reads-nothing

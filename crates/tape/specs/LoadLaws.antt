@@ -31,8 +31,10 @@ module _ (slim : Bool) where
   unfolding putAt
   record-put t at r kept inside =
       let n = length-wordsOf slim r in
-      rw (le-leb (wordOf slim at + width slim) (length t) inside)
-      (record-by-same slim (λ (k : ℕ). getD (sets t (wordOf slim at) (wordsOf slim r)) (wordOf slim at + k) 0) (λ (k : ℕ). getD (wordsOf slim r) k 0) (λ k below. getD-in (wordsOf slim r) t (wordOf slim at) k (omega (arith, n)) (omega (arith, n)))
+      let b : ℕ = wordOf slim at in
+      let ws : List ℕ = wordsOf slim r in
+      rw (le-leb (b + width slim) (length t) inside)
+      (record-by-same slim (λ (k : ℕ). getD (sets t b ws) (b + k) 0) (λ (k : ℕ). getD ws k 0) (λ k below. getD-in ws t b k (omega (arith, n)) (omega (arith, n)))
       ∙ words-record slim r kept)
 
   -- where its words agree, so does the record
@@ -73,7 +75,8 @@ module _ (slim : Bool) where
   load-store (r ∷ rs) t at kept inside =
       let same : wordOf slim (suc at + length rs) ≡ wordOf slim (at + length (r ∷ rs)) = ap (wordOf slim) (omega arith) in
       let one : wordOf slim at + width slim ≤ wordOf slim (at + length (r ∷ rs)) = word-before slim at (at + length (r ∷ rs)) (omega arith) in
-      rw (record-store rs (putAt slim t at r) (suc at) at (inl (omega arith)), record-put t at r (kept .0) (omega arith), load-store rs (putAt slim t at r) (suc at) (kept .1) (rw (length-putAt slim t at r) (omega (arith, same)))) refl
+      let u : List ℕ = putAt slim t at r in
+      rw (record-store rs u (suc at) at (inl (omega arith)), record-put t at r (kept .0) (omega arith), load-store rs u (suc at) (kept .1) (rw (length-putAt slim t at r) (omega (arith, same)))) refl
 
   -- the first of the records up to an end, and the others
   pub load-from : (t : List ℕ) (at end : ℕ) → at < end → load slim t at (end - at) ≡ recordAt slim t at ∷ load slim t (at + 1) (end - (at + 1))

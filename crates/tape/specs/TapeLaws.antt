@@ -105,10 +105,14 @@ module _ (slim : Bool) where
   put-put : (t : List ℕ) (i j : ℕ) (a b : Record) → i < j → putAt slim (putAt slim t i a) j b ≡ putAt slim (putAt slim t j b) i a
   unfolding putAt
   put-put t i j a b before =
-      let p : Bool = leb (wordOf slim i + width slim) (length t) in
-      let q : Bool = leb (wordOf slim j + width slim) (length t) in
-      rw (cond-length p (sets t (wordOf slim i) (wordsOf slim a)) t (length-sets t (wordOf slim i) (wordsOf slim a)), cond-length q (sets t (wordOf slim j) (wordsOf slim b)) t (length-sets t (wordOf slim j) (wordsOf slim b)))
-      (rw (sets-cond p (sets t (wordOf slim i) (wordsOf slim a)) t (wordOf slim j) (wordsOf slim b), sets-cond q (sets t (wordOf slim j) (wordsOf slim b)) t (wordOf slim i) (wordsOf slim a), sets-sets (wordsOf slim a) (wordsOf slim b) t (wordOf slim j) (wordOf slim i) (omega (arith, length-wordsOf slim a, word-before slim i j before)))
+      let b′ : ℕ = wordOf slim i in
+      let c : ℕ = wordOf slim j in
+      let us : List ℕ = wordsOf slim a in
+      let vs : List ℕ = wordsOf slim b in
+      let p : Bool = leb (b′ + width slim) (length t) in
+      let q : Bool = leb (c + width slim) (length t) in
+      rw (cond-length p (sets t b′ us) t (length-sets t b′ us), cond-length q (sets t c vs) t (length-sets t c vs))
+      (rw (sets-cond p (sets t b′ us) t c vs, sets-cond q (sets t c vs) t b′ us, sets-sets us vs t c b′ (omega (arith, length-wordsOf slim a, word-before slim i j before)))
       (cond-cond q p _ _ _ _))
 
   -- a word outside a record that was put

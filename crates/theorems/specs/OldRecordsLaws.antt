@@ -10,7 +10,7 @@ use borrow.Author.Tests.{le-leb, lt-leb, leb-true}
 use lib.Dec.{leb}
 use lib.ListN.{length, getD, take, length-take}
 use lib.Seq.{getD-take, ext-getD}
-use Rattle.outcome.specs.Call.{Gives, refused, refusal, noRoom}
+use Rattle.outcome.specs.Call.{After, Gives, refused, refusal, noRoom}
 use Rattle.outcome.specs.CallLaws.{gives-after}
 use Rattle.outcome.specs.declared.Outcome.{Outcome}
 use Rattle.registry.specs.Registry.{numberOf, registryOf}
@@ -118,8 +118,10 @@ module _ (slim : Bool) (t u : List ℕ) (alike : Alike slim t u) where
       trees : Forest
       trees = shows (numberOf registry) area base
 
-      go : (a b : Bool) → leb (base + length area) furthest ≡ b → (c : Bool) → headed slim t ≡ c
-          → Unmoved slim t u (cond a (cond b (cond c (fitted slim octets trees t) (refusal 4 t)) (refusal 3 t)) (refusal 2 t)) (cond a (cond b (cond c (fitted slim octets trees u) (refusal 4 u)) (refusal 3 u)) (refusal 2 u))
+      judged : Bool → Bool → Bool → List ℕ → After
+      judged a b c x = cond a (cond b (cond c (fitted slim octets trees x) (refusal 4 x)) (refusal 3 x)) (refusal 2 x)
+
+      go : (a b : Bool) → leb (base + length area) furthest ≡ b → (c : Bool) → headed slim t ≡ c → Unmoved slim t u (judged a b c t) (judged a b c u)
       go false b near c is = unmoved-refused (refused 2) refl
       go true false near c is = unmoved-refused (refused 3) refl
       go true true near false is = unmoved-refused (refused 4) refl

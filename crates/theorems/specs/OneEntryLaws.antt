@@ -35,7 +35,8 @@ record Accepted (slim : Bool) (shows : Walk) (registry : ℕ) (area : List ℕ) 
   pub written : o .written ≡ size (shows registry area base)
   pub covers : o .covered ≡ covered area
 
-accepted : (slim : Bool) (shows : Walk) → Nearby shows → (registry : ℕ) (area : List ℕ) (base : ℕ) (t : List ℕ) (o : Outcome) (x : List ℕ) → Gives (areaCall slim shows registry area base t) o x → o .answer ≡ 0 → Accepted slim shows registry area base t o x
+accepted : (slim : Bool) (shows : Walk) → Nearby shows → (registry : ℕ) (area : List ℕ) (base : ℕ) (t : List ℕ) (o : Outcome) (x : List ℕ)
+    → Gives (areaCall slim shows registry area base t) o x → o .answer ≡ 0 → Accepted slim shows registry area base t o x
 accepted slim shows nearby registry area base t o x ran zero =
     let d = call-done slim shows area base t registry (sym (ap (λ (o : Outcome). o .answer) (ran .gave)) ∙ zero) in
     let trees : Forest = shows registry area base in
@@ -65,7 +66,8 @@ beside-same leave registry a a′ base covers leaves = refl
 beside-same show registry a a′ base covers leaves = λ j. raw registry (base + covers j) (leaves j)
 
 -- trees that stand on two tapes, on the second d positions further on
-holds-moved : (slim slim′ : Bool) (trees : Forest) (x x′ : List ℕ) (at at′ d : ℕ) → at′ ≡ at + d → Holds slim x at trees → Holds slim′ x′ at′ trees → load slim′ x′ (at + d) (size trees) ≡ map (moved d) (load slim x at (size trees))
+holds-moved : (slim slim′ : Bool) (trees : Forest) (x x′ : List ℕ) (at at′ d : ℕ) → at′ ≡ at + d
+    → Holds slim x at trees → Holds slim′ x′ at′ trees → load slim′ x′ (at + d) (size trees) ≡ map (moved d) (load slim x at (size trees))
 holds-moved slim slim′ trees x x′ at at′ d further one other =
     ap (λ (n : ℕ). load slim′ x′ n (size trees)) (sym further) ∙ other ∙ ap (λ (n : ℕ). flat n trees) further ∙ flat-moved trees at d ∙ ap (map (moved d)) (sym one)
 
@@ -73,7 +75,8 @@ holds-moved slim slim′ trees x x′ at at′ d further one other =
 module _ {slim slim′ : Bool} {e : Ending} (plan : Plan) (registry base : ℕ) {a a′ x x′ : List ℕ} (ps : List (List ℕ)) (q q′ : List ℕ) (us : List (List ℕ)) {at at′ n n′ : ℕ} where
   later-moved : at ≡ at′ → length q ≡ length q′ → EntryByEntry plan registry base ps q us at slim e a x n → EntryByEntry plan registry base ps q′ us at′ slim′ e a′ x′ n′ → (d : ℕ)
       → size (own plan registry base ps q′ us) ≡ size (own plan registry base ps q us) + d
-      → load slim′ x′ (afterAt plan registry base ps q us at + d) (size (after plan registry base ps q us)) ≡ map (moved d) (load slim x (afterAt plan registry base ps q us at) (size (after plan registry base ps q us)))
+      → load slim′ x′ (afterAt plan registry base ps q us at + d) (size (after plan registry base ps q us))
+      ≡ map (moved d) (load slim x (afterAt plan registry base ps q us at) (size (after plan registry base ps q us)))
   later-moved same-at same-size one other d more =
       let after-same : after plan registry base ps q′ us ≡ after plan registry base ps q us = ap (λ (k : ℕ). each (entryTrees plan (innerWalk plan) registry) (base + total ps + k) us) (sym same-size) in
       let further : afterAt plan registry base ps q′ us at′ ≡ afterAt plan registry base ps q us at + d = omega (arith, same-at, more) in
@@ -82,7 +85,8 @@ module _ {slim slim′ : Bool} {e : Ending} (plan : Plan) (registry base : ℕ) 
 
 -- demand 3
 
-module _ (slim slim′ : Bool) (e : Ending) (plan : Plan) (nearby : Nearby (called e plan)) (registry base : ℕ) (a a′ t t′ : List ℕ) (o o′ : Outcome) (x x′ : List ℕ) (ps : List (List ℕ)) (q : List ℕ) (us : List (List ℕ)) where
+module _ (slim slim′ : Bool) (e : Ending) (plan : Plan) (nearby : Nearby (called e plan)) (registry base : ℕ) (a a′ t t′ : List ℕ)
+    (o o′ : Outcome) (x x′ : List ℕ) (ps : List (List ℕ)) (q : List ℕ) (us : List (List ℕ)) where
   pub one-entry : Two slim slim′ e plan registry base a a′ t t′ o o′ x x′ ps q us → (q′ : List ℕ) × OneEntry slim slim′ e plan registry base a a′ t t′ o o′ x x′ ps q us q′
   unfolding remainder
   one-entry two =

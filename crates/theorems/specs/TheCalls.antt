@@ -31,7 +31,8 @@ use Rattle.theorems.specs.ReadBack.{read-back}
 
 -- needed
 
-call-needed : (slim : Bool) (shows : Walk) (n : ℕ) (area : List ℕ) (base : ℕ) → ((registry : ℕ) → size (shows registry area base) ≤ n) → (registry : ℕ) (t : List ℕ) → areaCall slim shows registry area base t .outcome .needed ≤ n
+call-needed : (slim : Bool) (shows : Walk) (n : ℕ) (area : List ℕ) (base : ℕ) → ((registry : ℕ) → size (shows registry area base) ≤ n)
+    → (registry : ℕ) (t : List ℕ) → areaCall slim shows registry area base t .outcome .needed ≤ n
 call-needed slim shows n area base small registry t =
     call-cases (λ (after : After). after .outcome .needed ≤ n) slim shows area base t (λ answer. omega arith) (λ known. small (numberOf known)) (λ known near good fits. small (numberOf known)) registry
 

@@ -50,7 +50,8 @@ module _ (k registry : ℕ) (v : List ℕ) (base : ℕ) (row : OneRow registry k
       record { octet = room .octet; position = omega (arith, room .position, behind, ap (λ (x : Reading). size (x .found)) nested-is, size-⧺ head trees) }
 
   -- the head, and then the field
-  pub nested-made : {slim : Bool} {t u w : List ℕ} {at next : ℕ} {d : Decoded} → Laid slim head t u at next → Reads slim (took (fieldEnd v f) trees) u w next d → Reads slim (readingOf registry v base (usual registry k v)) t w at d
+  pub nested-made : {slim : Bool} {t u w : List ℕ} {at next : ℕ} {d : Decoded} → Laid slim head t u at next
+      → Reads slim (took (fieldEnd v f) trees) u w next d → Reads slim (readingOf registry v base (usual registry k v)) t w at d
   nested-made laid reads = reads-as nested-is (record { taken = reads .taken; laid = laid-then laid (reads .laid) })
 
 -- a system id is one record at most

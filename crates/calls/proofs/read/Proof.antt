@@ -24,10 +24,18 @@ no-record-requires-2 : tie.Need-no-record-requires-2
 no-record-requires-2 c κs = search needs
 
 returns-2 : tie.Need-returns-2
-returns-2 c = c .no-record2 .ensures ∙ sym (read-6 _ _ _ (sym (c .before .before .before .before .before .before .in-order .ensures) ∙ not-false _ (c .before .before .before .before .before .if1 .left)) (rw (c .before .before .before .before .used .ensures) at (c .before .if2 .taken)))
+returns-2 c =
+    let counted = c .before .before .before .before in
+    let tested = counted .before in
+    let good = sym (tested .before .in-order .ensures) ∙ not-false _ (tested .if1 .left) in
+    c .no-record2 .ensures ∙ sym (read-6 _ _ _ good (rw (counted .used .ensures) at (c .before .if2 .taken)))
 
 get-requires : tie.Need-get-requires
-get-requires c κs = omega (arith, used-inside _ (headed-in-order _ (sym (c .before .before .before .before .before .in-order .ensures) ∙ not-false _ (c .before .before .before .before .if1 .left))), c .before .before .before .used .ensures, c .if2 .left)
+get-requires c κs =
+    let counted = c .before .before .before in
+    let tested = counted .before in
+    let good = sym (tested .before .in-order .ensures) ∙ not-false _ (tested .if1 .left) in
+    omega (arith, used-inside _ (headed-in-order _ good), counted .used .ensures, c .if2 .left)
 
 is-readable-requires : tie.Need-is-readable-requires
 is-readable-requires c κs = search needs
@@ -36,13 +44,27 @@ no-record-requires-3 : tie.Need-no-record-requires-3
 no-record-requires-3 c κs = search needs
 
 returns-3 : tie.Need-returns-3
-returns-3 c = c .no-record3 .ensures ∙ sym (read-8 _ _ _ (sym (c .before .before .before .before .before .before .before .before .before .in-order .ensures) ∙ not-false _ (c .before .before .before .before .before .before .before .before .if1 .left)) (rw (c .before .before .before .before .before .before .before .used .ensures) at (c .before .before .before .before .if2 .left)) (rw (c .before .before .before .get .ensures) at (sym (c .before .before .is-readable .ensures) ∙ not-true _ (c .before .if3 .taken))))
+returns-3 c =
+    let got = c .before .before .before .get .ensures in
+    let there = c .before .before .before .before in
+    let counted = there .before .before .before in
+    let tested = counted .before in
+    let good = sym (tested .before .in-order .ensures) ∙ not-false _ (tested .if1 .left) in
+    let unreadable = rw got at (sym (c .before .before .is-readable .ensures) ∙ not-true _ (c .before .if3 .taken)) in
+    c .no-record3 .ensures ∙ sym (read-8 _ _ _ good (rw (counted .used .ensures) at (there .if2 .left)) unreadable)
 
 done-requires : tie.Need-done-requires
 done-requires c κs = search needs
 
 returns-4 : tie.Need-returns-4
-returns-4 c = rw (c .done .ensures, c .before .before .before .get .ensures) (sym (read-0 _ _ _ (sym (c .before .before .before .before .before .before .before .before .before .in-order .ensures) ∙ not-false _ (c .before .before .before .before .before .before .before .before .if1 .left)) (rw (c .before .before .before .before .before .before .before .used .ensures) at (c .before .before .before .before .if2 .left)) (rw (c .before .before .before .get .ensures) at (sym (c .before .before .is-readable .ensures) ∙ not-false _ (c .before .if3 .left)))))
+returns-4 c =
+    let got = c .before .before .before .get .ensures in
+    let there = c .before .before .before .before in
+    let counted = there .before .before .before in
+    let tested = counted .before in
+    let good = sym (tested .before .in-order .ensures) ∙ not-false _ (tested .if1 .left) in
+    let readable = rw got at (sym (c .before .before .is-readable .ensures) ∙ not-false _ (c .before .if3 .left)) in
+    rw (c .done .ensures, got) (sym (read-0 _ _ _ good (rw (counted .used .ensures) at (there .if2 .left)) readable))
 
 pub read-spec : {M : Type 1} → statement M
 read-spec =

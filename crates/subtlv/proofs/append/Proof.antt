@@ -13,22 +13,36 @@ use Rattle.subtlv.proofs.append.Statement.{statement}
 use Rattle.subtlv.proofs.append.Tie as tie
 
 used-requires : tie.Need-used-requires
-used-requires c κs = let x = headed-in-order (c .before .before .before .args .tape .now) (c .before .before .before .pre .2) in x .long
+used-requires c κs =
+    let start = c .before .before .before in
+    headed-in-order (start .args .tape .now) (start .pre .2) .long
 
 show-requires : tie.Need-show-requires
-show-requires c κs = let x = headed-in-order (c .before .before .before .before .before .args .tape .now) (c .before .before .before .before .before .pre .2) in (c .before .before .before .before .before .pre .0, c .before .before .before .before .before .pre .1, omega (arith, x .fits, x .long, room-few (c .before .before .before .before .before .args .slim) (length (c .before .before .before .before .before .args .tape .now)), c .before .used .ensures))
+show-requires c κs =
+    let start = c .before .before .before .before .before in
+    let g = start .args in
+    let x = headed-in-order (g .tape .now) (start .pre .2) in
+    (start .pre .0, start .pre .1, omega (arith, x .fits, x .long, room-few (g .slim) (length (g .tape .now)), c .before .used .ensures))
 
 sub-written : tie.Need-sub-written
 sub-written c = omega (arith, c .before .before .before .before .before .show .ensures .laid .place)
 
 set-used-requires : tie.Need-set-used-requires
-set-used-requires c κs = let x = headed-in-order (c .before .before .before .before .before .before .before .before .before .before .before .before .args .tape .now) (c .before .before .before .before .before .before .before .before .before .before .before .before .pre .2) in omega (arith, x .long)
+set-used-requires c κs =
+    let start = c .before .before .before .before .before .before .before .before .before .before .before .before in
+    let x = headed-in-order (start .args .tape .now) (start .pre .2) in
+    omega (arith, x .long)
 
 same-length : tie.Need-same-length
 same-length c = search needs
 
 returns : tie.Need-returns
-returns c = let g = c .before .before .before .before .before .before .before .before .before .before .before .before .before .before .before .args in let trees = shownBy (g .call) (numberOf (g .registry)) (g .area .now) (g .base .0) in appended-made (g .slim) (covered (g .area .now)) trees (g .tape .now) (c .before .before .before .before .before .before .before .before .before .before .before .used .ensures) refl (c .before .before .before .before .before .before .before .before .before .show .ensures) (c .before .before .set-used .ensures)
+returns c =
+    let shown = c .before .before .before .before .before .before .before .before .before in
+    let counted = shown .before .before in
+    let g = counted .before .before .before .before .args in
+    let trees = shownBy (g .call) (numberOf (g .registry)) (g .area .now) (g .base .0) in
+    appended-made (g .slim) (covered (g .area .now)) trees (g .tape .now) (counted .used .ensures) refl (shown .show .ensures) (c .before .before .set-used .ensures)
 
 pub append-spec : {M : Type 1} → statement M
 append-spec =

@@ -20,16 +20,25 @@ use Rattle.subtlv.proofs.fitted.Statement.{statement}
 use Rattle.subtlv.proofs.fitted.Tie as tie
 
 used-requires : tie.Need-used-requires
-used-requires c κs = let x = headed-in-order (c .before .before .before .args .tape .now) (c .before .before .before .pre .2) in x .long
+used-requires c κs =
+    let start = c .before .before .before in
+    headed-in-order (start .args .tape .now) (start .pre .2) .long
 
 room-of-requires : tie.Need-room-of-requires
-room-of-requires c κs = let x = headed-in-order (c .before .before .before .before .args .tape .now) (c .before .before .before .before .pre .2) in x .long
+room-of-requires c κs =
+    let start = c .before .before .before .before in
+    headed-in-order (start .args .tape .now) (start .pre .2) .long
 
 sub-free : tie.Need-sub-free
-sub-free c = let x = headed-in-order (c .before .before .before .before .before .before .args .tape .now) (c .before .before .before .before .before .before .pre .2) in omega (arith, x .fits, c .before .before .used .ensures, c .before .room-of .ensures)
+sub-free c =
+    let start = c .before .before .before .before .before .before in
+    let x = headed-in-order (start .args .tape .now) (start .pre .2) in
+    omega (arith, x .fits, c .before .before .used .ensures, c .before .room-of .ensures)
 
 mul-if1 : tie.Need-mul-if1
-mul-if1 c = let g = c .before .before .before .before .before .before .args in omega (arith, room-few (g .slim) (length (g .tape .now)), c .before .room-of .ensures)
+mul-if1 c =
+    let g = c .before .before .before .before .before .before .args in
+    omega (arith, room-few (g .slim) (length (g .tape .now)), c .before .room-of .ensures)
 
 mul-if1-2 : tie.Need-mul-if1-2
 mul-if1-2 c = search needs
@@ -45,28 +54,39 @@ same-length c = search needs
 
 returns : tie.Need-returns
 returns c =
-    let g = c .before .before .before .before .before .before .before .before .before .before .args in
+    let counted = c .before .before .count .ensures in
+    let sized = c .before .before .before .before .before in
+    let before = sized .before .used .ensures in
+    let g = sized .before .before .before .before .before .args in
     let trees = shownBy (g .call) (numberOf (g .registry)) (g .area .now) (g .base .0) in
-    gives-as (fitted-5 (g .slim) (covered (g .area .now)) trees (g .tape .now) (omega (arith, c .before .before .count .ensures, c .before .before .before .before .before .before .used .ensures, c .before .before .before .before .before .room-of .ensures)))
-    (record { gave = c .no-room .ensures ∙ ap (λ (n : ℕ). noRoom n) (c .before .before .count .ensures); left = refl })
+    gives-as (fitted-5 (g .slim) (covered (g .area .now)) trees (g .tape .now) (omega (arith, counted, before, sized .room-of .ensures)))
+    (record { gave = c .no-room .ensures ∙ ap (λ (n : ℕ). noRoom n) counted; left = refl })
 
 append-requires : tie.Need-append-requires
 append-requires c κs =
-    let g = c .before .before .before .before .before .before .before .before .args in
+    let sized = c .before .before .before in
+    let before = sized .before .used .ensures in
+    let start = sized .before .before .before .before .before in
+    let g = start .args in
     let trees = shownBy (g .call) (numberOf (g .registry)) (g .area .now) (g .base .0) in
+    let at-most = most (g .call) (numberOf (g .registry)) (g .area .now) (g .base .0) in
     let fits : size trees ≤ room (g .slim) (g .tape .now) - used (g .tape .now) =
-    ⊎-elim (λ w. omega (arith, w .1 .ensures, w .2 .left, c .before .before .before .before .used .ensures, c .before .before .before .room-of .ensures)) (λ w. omega (arith, w .left, most (g .call) (numberOf (g .registry)) (g .area .now) (g .base .0), c .before .before .before .before .used .ensures, c .before .before .before .room-of .ensures)) (c .before .if1 .came) in
-    (c .before .before .before .before .before .before .before .before .pre .0, c .before .before .before .before .before .before .before .before .pre .1, c .before .before .before .before .before .before .before .before .pre .2, fits)
+    ⊎-elim (λ w. omega (arith, w .1 .ensures, w .2 .left, before, sized .room-of .ensures)) (λ w. omega (arith, w .left, at-most, before, sized .room-of .ensures)) (c .before .if1 .came) in
+    (start .pre .0, start .pre .1, start .pre .2, fits)
 
 same-length-2 : tie.Need-same-length-2
 same-length-2 c = search needs
 
 returns-2 : tie.Need-returns-2
 returns-2 c =
-    let g = c .before .before .before .before .before .before .before .before .before .before .before .args in
+    let tested = c .before .before .before .before in
+    let sized = tested .before .before in
+    let before = sized .before .used .ensures in
+    let g = sized .before .before .before .before .before .args in
     let trees = shownBy (g .call) (numberOf (g .registry)) (g .area .now) (g .base .0) in
+    let at-most = most (g .call) (numberOf (g .registry)) (g .area .now) (g .base .0) in
     let fits : size trees ≤ room (g .slim) (g .tape .now) - used (g .tape .now) =
-    ⊎-elim (λ w. omega (arith, w .1 .ensures, w .2 .left, c .before .before .before .before .before .before .before .used .ensures, c .before .before .before .before .before .before .room-of .ensures)) (λ w. omega (arith, w .left, most (g .call) (numberOf (g .registry)) (g .area .now) (g .base .0), c .before .before .before .before .before .before .before .used .ensures, c .before .before .before .before .before .before .room-of .ensures)) (c .before .before .before .before .if1 .came) in
+    ⊎-elim (λ w. omega (arith, w .1 .ensures, w .2 .left, before, sized .room-of .ensures)) (λ w. omega (arith, w .left, at-most, before, sized .room-of .ensures)) (tested .if1 .came) in
     gives-as (fitted-0 (g .slim) (covered (g .area .now)) trees (g .tape .now) fits) (c .before .before .append .ensures)
 
 pub fitted-spec : {M : Type 1} → statement M

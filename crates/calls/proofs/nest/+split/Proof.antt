@@ -59,16 +59,28 @@ split-holds-others-requires : (t : ℕ) → split-lts.Need-holds-others-requires
 split-holds-others-requires t c κs = search needs
 
 split-returns : (t : ℕ) → split-lts.Need-returns (callees t) (split-at t) split.Post split-Inv-loop split-μ-loop
-split-returns t c = too-deep _ _ _ _ _ (c .before .before .before .before .if1 .taken) (rw (c .before .before .before .get .ensures) at (sym (c .before .before .holds-others .ensures) ∙ c .before .if2 .taken)) (c .if3 .taken) ∙ c .before .before .before .before .before .before .loop .inv
+split-returns t c =
+    let more = c .before .before .before .before in
+    let got = c .before .before .before .get .ensures in
+    let holding = rw got at (sym (c .before .before .holds-others .ensures) ∙ c .before .if2 .taken) in
+    too-deep _ _ _ _ _ (more .if1 .taken) holding (c .if3 .taken) ∙ more .before .before .loop .inv
 
 split-is-container-requires : (t : ℕ) → split-lts.Need-is-container-requires (callees t) (split-at t) split.Post split-Inv-loop split-μ-loop
-split-is-container-requires t c κs = let g = c .before .before .before .before .before .before .before .before in omega (arith, room-low (g .args .slim) (length (g .args .tape .now)), g .pre .1)
+split-is-container-requires t c κs =
+    let start = c .before .before .before .before .before .before .before .before in
+    omega (arith, room-low (start .args .slim) (length (start .args .tape .now)), start .pre .1)
 
 split-returns-2 : (t : ℕ) → split-lts.Need-returns-2 (callees t) (split-at t) split.Post split-Inv-loop split-μ-loop
-split-returns-2 t c = bad-container _ _ _ _ _ (c .before .before .before .before .before .before .if1 .taken) (rw (c .before .before .before .before .before .get .ensures) at (sym (c .before .before .before .before .holds-others .ensures) ∙ c .before .before .before .if2 .taken)) (c .before .before .if3 .left) (rw (c .before .before .before .before .before .get .ensures) at (sym (c .before .is-container .ensures) ∙ not-true _ (c .if4 .taken))) ∙ c .before .before .before .before .before .before .before .before .loop .inv
+split-returns-2 t c =
+    let more = c .before .before .before .before .before .before in
+    let got = c .before .before .before .before .before .get .ensures in
+    let holding = rw got at (sym (c .before .before .before .before .holds-others .ensures) ∙ c .before .before .before .if2 .taken) in
+    let bad = rw got at (sym (c .before .is-container .ensures) ∙ not-true _ (c .if4 .taken)) in
+    bad-container _ _ _ _ _ (more .if1 .taken) holding (c .before .before .if3 .left) bad ∙ more .before .before .loop .inv
 
 -- the container's children end inside its parent
-ends : (t : ℕ) (c : split-lts.Else4 (callees t) (split-at t) split.Post split-Inv-loop split-μ-loop) → Ends (c .before .before .before .before .before .get .result) (c .before .before .before .before .before .before .before .before .loop .at) (c .before .before .before .before .before .before .before .before .before .before .args .end .0)
+ends : (t : ℕ) (c : split-lts.Else4 (callees t) (split-at t) split.Post split-Inv-loop split-μ-loop)
+    → Ends (c .before .before .before .before .before .get .result) (c .before .before .before .before .before .before .before .before .loop .at) (c .before .before .before .before .before .before .before .before .before .before .args .end .0)
 ends t c = container-ends _ _ _ (sym (c .before .is-container .ensures) ∙ not-false _ (c .if4 .left))
 
 split-sub-split : (t : ℕ) → split-lts.Need-sub-split (callees t) (split-at t) split.Post split-Inv-loop split-μ-loop
@@ -81,19 +93,36 @@ split-split-requires : (t : ℕ) → split-lts.Need-split-requires (callees t) (
 split-split-requires t c κs = let e = ends t c in (omega arith, omega arith)
 
 split-returns-3 : (t : ℕ) → split-lts.Need-returns-3 (callees t) (split-at t) split.Post split-Inv-loop split-μ-loop
-split-returns-3 t c = bad-children _ _ _ _ _ (c .before .before .before .before .before .before .before .before .if1 .taken) (rw (c .before .before .before .before .before .before .before .get .ensures) at (sym (c .before .before .before .before .before .before .holds-others .ensures) ∙ c .before .before .before .before .before .if2 .taken)) (c .before .before .before .before .if3 .left) (rw (c .before .before .before .before .before .before .before .get .ensures) at (sym (c .before .before .before .is-container .ensures) ∙ not-false _ (c .before .before .if4 .left))) (rw (c .before .before .before .before .before .before .before .get .ensures) at (sym (c .before .split .ensures) ∙ not-true _ (c .if5 .taken))) ∙ c .before .before .before .before .before .before .before .before .before .before .loop .inv
+split-returns-3 t c =
+    let more = c .before .before .before .before .before .before .before .before in
+    let got = c .before .before .before .before .before .before .before .get .ensures in
+    let holding = rw got at (sym (c .before .before .before .before .before .before .holds-others .ensures) ∙ c .before .before .before .before .before .if2 .taken) in
+    let good = rw got at (sym (c .before .before .before .is-container .ensures) ∙ not-false _ (c .before .before .if4 .left)) in
+    let children = rw got at (sym (c .before .split .ensures) ∙ not-true _ (c .if5 .taken)) in
+    bad-children _ _ _ _ _ (more .if1 .taken) holding (c .before .before .before .before .if3 .left) good children ∙ more .before .before .loop .inv
 
 split-loop-less : (t : ℕ) → split-lts.Need-loop-less (callees t) (split-at t) split.Post split-Inv-loop split-μ-loop
 split-loop-less t c = let e = ends t (c .before .before) in omega arith
 
 split-loop-again : (t : ℕ) → split-lts.Need-loop-again (callees t) (split-at t) split.Post split-Inv-loop split-μ-loop
-split-loop-again t c = rw (c .before .before .before .before .before .before .before .get .ensures) (past-container _ _ _ _ _ (c .before .before .before .before .before .before .before .before .if1 .taken) (rw (c .before .before .before .before .before .before .before .get .ensures) at (sym (c .before .before .before .before .before .before .holds-others .ensures) ∙ c .before .before .before .before .before .if2 .taken)) (c .before .before .before .before .if3 .left) (rw (c .before .before .before .before .before .before .before .get .ensures) at (sym (c .before .before .before .is-container .ensures) ∙ not-false _ (c .before .before .if4 .left))) (rw (c .before .before .before .before .before .before .before .get .ensures) at (sym (c .before .split .ensures) ∙ not-false _ (c .if5 .left))) ∙ c .before .before .before .before .before .before .before .before .before .before .loop .inv)
+split-loop-again t c =
+    let more = c .before .before .before .before .before .before .before .before in
+    let got = c .before .before .before .before .before .before .before .get .ensures in
+    let holding = rw got at (sym (c .before .before .before .before .before .before .holds-others .ensures) ∙ c .before .before .before .before .before .if2 .taken) in
+    let good = rw got at (sym (c .before .before .before .is-container .ensures) ∙ not-false _ (c .before .before .if4 .left)) in
+    let children = rw got at (sym (c .before .split .ensures) ∙ not-false _ (c .if5 .left)) in
+    rw got (past-container _ _ _ _ _ (more .if1 .taken) holding (c .before .before .before .before .if3 .left) good children ∙ more .before .before .loop .inv)
 
 split-is-leaf-requires : (t : ℕ) → split-lts.Need-is-leaf-requires (callees t) (split-at t) split.Post split-Inv-loop split-μ-loop
 split-is-leaf-requires t c κs = search needs
 
 split-returns-4 : (t : ℕ) → split-lts.Need-returns-4 (callees t) (split-at t) split.Post split-Inv-loop split-μ-loop
-split-returns-4 t c = bad-leaf _ _ _ _ _ (c .before .before .before .before .before .if1 .taken) (rw (c .before .before .before .before .get .ensures) at (sym (c .before .before .before .holds-others .ensures) ∙ c .before .before .if2 .left)) (rw (c .before .before .before .before .get .ensures) at (sym (c .before .is-leaf .ensures) ∙ not-true _ (c .if6 .taken))) ∙ c .before .before .before .before .before .before .before .loop .inv
+split-returns-4 t c =
+    let more = c .before .before .before .before .before in
+    let got = c .before .before .before .before .get .ensures in
+    let leaf = rw got at (sym (c .before .before .before .holds-others .ensures) ∙ c .before .before .if2 .left) in
+    let judged = rw got at (sym (c .before .is-leaf .ensures) ∙ not-true _ (c .if6 .taken)) in
+    bad-leaf _ _ _ _ _ (more .if1 .taken) leaf judged ∙ more .before .before .loop .inv
 
 split-add-at : (t : ℕ) → split-lts.Need-add-at (callees t) (split-at t) split.Post split-Inv-loop split-μ-loop
 split-add-at t c = omega arith
@@ -102,7 +131,12 @@ split-loop-less-2 : (t : ℕ) → split-lts.Need-loop-less-2 (callees t) (split-
 split-loop-less-2 t c = omega arith
 
 split-loop-again-2 : (t : ℕ) → split-lts.Need-loop-again-2 (callees t) (split-at t) split.Post split-Inv-loop split-μ-loop
-split-loop-again-2 t c = past-leaf _ _ _ _ _ (c .before .before .before .before .before .if1 .taken) (rw (c .before .before .before .before .get .ensures) at (sym (c .before .before .before .holds-others .ensures) ∙ c .before .before .if2 .left)) (rw (c .before .before .before .before .get .ensures) at (sym (c .before .is-leaf .ensures) ∙ not-false _ (c .if6 .left))) ∙ c .before .before .before .before .before .before .before .loop .inv
+split-loop-again-2 t c =
+    let more = c .before .before .before .before .before in
+    let got = c .before .before .before .before .get .ensures in
+    let leaf = rw got at (sym (c .before .before .before .holds-others .ensures) ∙ c .before .before .if2 .left) in
+    let judged = rw got at (sym (c .before .is-leaf .ensures) ∙ not-false _ (c .if6 .left)) in
+    past-leaf _ _ _ _ _ (more .if1 .taken) leaf judged ∙ more .before .before .loop .inv
 
 split-returns-5 : (t : ℕ) → split-lts.Need-returns-5 (callees t) (split-at t) split.Post split-Inv-loop split-μ-loop
 split-returns-5 t c = sym (trees-none _ _ _ _ _ (c .if1 .left)) ∙ c .before .before .loop .inv

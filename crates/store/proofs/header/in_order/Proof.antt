@@ -24,14 +24,21 @@ width-requires c κs = search needs
 
 returns-3 : tie.Need-returns-3
 unfolding headed
-returns-3 c = rw (le-leb _ _ (c .before .before .before .before .before .if1 .left), eq-eqb _ _ (c .before .before .before .if2 .left), ne-eqb _ _ (rw (c .before .width .ensures .0) at (c .if3 .taken))) refl
+returns-3 c =
+    let second = c .before .before .before in
+    let first = second .before .before in
+    rw (le-leb _ _ (first .if1 .left), eq-eqb _ _ (second .if2 .left), ne-eqb _ _ (rw (c .before .width .ensures .0) at (c .if3 .taken))) refl
 
 shared-slice-read-if4 : tie.Need-shared-slice-read-if4
 shared-slice-read-if4 c = search needs
 
 returns-4 : tie.Need-returns-4
 unfolding headed
-returns-4 c = rw (le-leb _ _ (c .before .before .before .before .before .before .before .if1 .left), eq-eqb _ _ (c .before .before .before .before .before .if2 .left), eq-eqb _ _ (rw (c .before .before .before .width .ensures .0) at (c .before .before .if3 .left)), ne-eqb _ _ (c .if4 .taken)) refl
+returns-4 c =
+    let third = c .before .before in
+    let second = third .before .before .before in
+    let first = second .before .before in
+    rw (le-leb _ _ (first .if1 .left), eq-eqb _ _ (second .if2 .left), eq-eqb _ _ (rw (third .before .width .ensures .0) at (third .if3 .left)), ne-eqb _ _ (c .if4 .taken)) refl
 
 shared-slice-read-result : tie.Need-shared-slice-read-result
 shared-slice-read-result c = search needs
@@ -41,7 +48,14 @@ room-of-requires c κs = search needs
 
 returns-5 : tie.Need-returns-5
 unfolding headed
-returns-5 c = rw (le-leb _ _ (c .before .before .before .before .before .before .before .before .before .if1 .left), eq-eqb _ _ (c .before .before .before .before .before .before .before .if2 .left), eq-eqb _ _ (rw (c .before .before .before .before .before .width .ensures .0) at (c .before .before .before .before .if3 .left)), eq-eqb _ _ (c .before .before .if4 .left), c .room-of .ensures) refl
+returns-5 c =
+    let fourth = c .before .before in
+    let third = fourth .before .before in
+    let second = third .before .before .before in
+    let first = second .before .before in
+    rw
+    (le-leb _ _ (first .if1 .left), eq-eqb _ _ (second .if2 .left), eq-eqb _ _ (rw (third .before .width .ensures .0) at (third .if3 .left)), eq-eqb _ _ (fourth .if4 .left), c .room-of .ensures)
+    refl
 
 pub in-order-spec : {M : Type 1} → statement M
 in-order-spec =
