@@ -5,6 +5,7 @@ use std::fmt::Arguments;
 use std::hint::black_box;
 
 use crate::brief::Brief;
+use crate::layout::Layout;
 use crate::lent::Lent;
 use crate::model::{self, After};
 use crate::native::{self, Area, Outcome, Record};
@@ -29,41 +30,64 @@ pub enum Call {
     Push,
 }
 
-/// How often each call gave each answer, in the library as in the model.
-#[derive(Debug, Default)]
+/// How often each call on tapes of one layout gave each answer, in the library as in the model.
+#[derive(Debug)]
 pub struct Tally {
+    layout: Layout,
     counts: BTreeMap<(Call, u64), u64>,
 }
 
 impl Tally {
+    /// A tally of no call yet.
+    pub fn of(layout: Layout) -> Self {
+        let counts = BTreeMap::new();
+        Self { layout, counts }
+    }
+
+    /// A tally of no call yet for each layout.
+    pub fn in_each_layout() -> [Self; 2] {
+        Layout::ALL.map(Self::of)
+    }
+
+    /// The layout of the tapes.
+    pub fn layout(&self) -> Layout {
+        self.layout
+    }
+
     /// Compares a clear.
     pub fn clear(&mut self, tape: &[u64]) {
-        let name = format_args!("clear of {}", Brief(tape));
-        let answer = assert_change(name, tape, &model::clear(tape), native::clear);
+        let layout = self.layout;
+        let name = format_args!("{layout} clear of {}", Brief(tape));
+        let expected = model::clear(layout, tape);
+        let answer = assert_change(name, layout, tape, &expected, native::clear);
         self.add(Call::Clear, answer);
     }
 
     /// Compares a cut back to a mark.
     pub fn cut_back(&mut self, tape: &[u64], mark: u64) {
-        let name = format_args!("cut back to {mark} of {}", Brief(tape));
-        let call = |lent: &mut [u64]| native::cut_back(lent, mark);
-        let answer = assert_change(name, tape, &model::cut_back(tape, mark), call);
+        let layout = self.layout;
+        let name = format_args!("{layout} cut back to {mark} of {}", Brief(tape));
+        let expected = model::cut_back(layout, tape, mark);
+        let call = |layout, lent: &mut [u64]| native::cut_back(layout, lent, mark);
+        let answer = assert_change(name, layout, tape, &expected, call);
         self.add(Call::CutBack, answer);
     }
 
     /// Compares a read of one position.
     pub fn read(&mut self, tape: &[u64], at: u64) {
-        let name = format_args!("read at {at} of {}", Brief(tape));
-        let given = lend(name, tape, tape, |lent| native::read(lent, at));
-        assert_eq!(given, model::read(tape, at), "{name}");
+        let layout = self.layout;
+        let name = format_args!("{layout} read at {at} of {}", Brief(tape));
+        let given = lend(name, tape, tape, |lent| native::read(layout, lent, at));
+        assert_eq!(given, model::read(layout, tape, at), "{name}");
         self.add(Call::Read, given.1.answer);
     }
 
     /// Compares the nest test.
     pub fn nest_test(&mut self, tape: &[u64]) {
-        let name = format_args!("nest test of {}", Brief(tape));
-        let given = lend(name, tape, tape, |lent| native::nest_test(lent));
-        assert_eq!(given, model::nest_test(tape), "{name}");
+        let layout = self.layout;
+        let name = format_args!("{layout} nest test of {}", Brief(tape));
+        let given = lend(name, tape, tape, |lent| native::nest_test(layout, lent));
+        assert_eq!(given, model::nest_test(layout, tape), "{name}");
         self.add(Call::NestTest, given.into());
     }
 
@@ -79,32 +103,38 @@ impl Tally {
 
     /// Compares a walk.
     pub fn walk(&mut self, shown: &Shown<'_>, tape: &[u64]) {
-        let name = format_args!("walk of {} onto {}", shown.area, Brief(tape));
-        let answer = assert_append(name, native::walk, shown.area, tape, &shown.walk(tape));
+        let layout = self.layout;
+        let name = format_args!("{layout} walk of {} onto {}", shown.area, Brief(tape));
+        let expected = shown.walk(layout, tape);
+        let answer = assert_append(name, layout, native::walk, shown.area, tape, &expected);
         self.add(Call::Walk, answer);
     }
 
     /// Compares a push.
     pub fn push(&mut self, shown: &Shown<'_>, tape: &[u64]) {
-        let name = format_args!("push of {} onto {}", shown.area, Brief(tape));
-        let answer = assert_append(name, native::push, shown.area, tape, &shown.push(tape));
+        let layout = self.layout;
+        let name = format_args!("{layout} push of {} onto {}", shown.area, Brief(tape));
+        let expected = shown.push(layout, tape);
+        let answer = assert_append(name, layout, native::push, shown.area, tape, &expected);
         self.add(Call::Push, answer);
     }
 
     /// Compares walks and pushes behind these records, with room for none, for one record too
     /// few, for exactly enough and for more, and random words in it.
     pub fn every_room(&mut self, random: &mut Random, shown: &Shown<'_>, earlier: &[Record]) {
+        let layout = self.layout;
+        let mut tape = |room| tapes::with_room(random, layout, earlier, room);
         for room in rooms(shown.needed_by_walk()) {
-            self.walk(shown, &tapes::with_room(random, earlier, room));
+            self.walk(shown, &tape(room));
         }
         for room in rooms(shown.needed_by_push()) {
-            self.push(shown, &tapes::with_room(random, earlier, room));
+            self.push(shown, &tape(room));
         }
     }
 
     /// Prints the counts, asserts how many calls were compared, and adds them to the summary.
     pub fn assert_calls(&self, least: u64) {
-        println!("{} calls: {:?}", self.calls(), self.counts);
+        println!("{}: {} calls: {:?}", self.layout, self.calls(), self.counts);
         assert!(self.calls() >= least, "{} calls", self.calls());
         summary::add(seed(), self.calls(), self.calls_of(Call::Push));
     }
@@ -113,7 +143,11 @@ impl Tally {
     pub fn assert_answers(&self, call: Call, answers: &[u64], least: u64) {
         for answer in answers {
             let count = self.counts.get(&(call, *answer)).copied().unwrap_or(0);
-            assert!(count >= least, "{call:?} gave {answer} {count} times");
+            let layout = self.layout;
+            assert!(
+                count >= least,
+                "{layout} {call:?} gave {answer} {count} times"
+            );
         }
     }
 
@@ -129,7 +163,7 @@ impl Tally {
     }
 
     /// Counts one call.
-    fn add(&mut self, call: Call, answer: u64) {
+    pub fn add(&mut self, call: Call, answer: u64) {
         *self.counts.entry((call, answer)).or_insert(0) += 1;
     }
 }
@@ -145,16 +179,17 @@ fn rooms(needed: usize) -> Vec<usize> {
 /// Gives the answer.
 fn assert_append(
     name: Arguments<'_>,
-    call: fn(Area<'_>, &mut [u64]) -> Outcome,
+    layout: Layout,
+    call: fn(Layout, Area<'_>, &mut [u64]) -> Outcome,
     area: Area<'_>,
     tape: &[u64],
     expected: &After,
 ) -> u64 {
     let mut octets = Lent::around(area.octets);
     let before = octets.clone();
-    let answer = assert_change(name, tape, expected, |lent| {
+    let answer = assert_change(name, layout, tape, expected, |layout, lent| {
         let octets = octets.middle();
-        call(Area { octets, ..area }, lent)
+        call(layout, Area { octets, ..area }, lent)
     });
     // The compiler may take it that lent octets stay; here they are looked at.
     let octets = black_box(octets);
@@ -166,14 +201,15 @@ fn assert_append(
 /// one. Gives the answer.
 fn assert_change(
     name: Arguments<'_>,
+    layout: Layout,
     tape: &[u64],
     expected: &After,
-    call: impl FnOnce(&mut [u64]) -> Outcome,
+    call: impl FnOnce(Layout, &mut [u64]) -> Outcome,
 ) -> u64 {
-    let given = lend(name, tape, &expected.tape, call);
+    let given = lend(name, tape, &expected.tape, |lent| call(layout, lent));
     assert_eq!(given, expected.outcome, "{name}");
-    let was_a_nest = native::nest_test(tape);
-    let is_a_nest = native::nest_test(&expected.tape);
+    let was_a_nest = native::nest_test(layout, tape);
+    let is_a_nest = native::nest_test(layout, &expected.tape);
     assert!(is_a_nest || !was_a_nest, "{name}");
     given.answer
 }

@@ -2,6 +2,7 @@
 
 use crate::agree::Tally;
 use crate::areas;
+use crate::layout::Layout;
 use crate::native::{Area, Record};
 use crate::random::Random;
 use crate::shown::{LAST_PLACE, Shown};
@@ -20,14 +21,14 @@ pub struct Comparison {
 }
 
 impl Comparison {
-    /// A comparison of nothing yet, from the seed of this run, which is printed.
-    pub fn of_this_run() -> Self {
-        Self::new(Random::of_this_run())
+    /// A comparison of nothing yet in each layout, from the seed of this run, which is printed.
+    pub fn in_each_layout() -> [Self; 2] {
+        Layout::ALL.map(|layout| Self::new(layout, Random::of_this_run()))
     }
 
     /// A comparison of nothing yet.
-    pub fn new(random: Random) -> Self {
-        let tally = Tally::default();
+    pub fn new(layout: Layout, random: Random) -> Self {
+        let tally = Tally::of(layout);
         Self { tally, random }
     }
 
@@ -35,15 +36,16 @@ impl Comparison {
     /// one record too few, for exactly enough and for more.
     pub fn every_room(&mut self, registry: u8, octets: &[u8]) {
         let shown = self.shown(registry, octets);
-        let earlier = earlier(&mut self.random);
+        let earlier = earlier(&mut self.random, self.tally.layout());
         self.tally.every_room(&mut self.random, &shown, &earlier);
     }
 
     /// Compares a walk and a push of an area, behind earlier records and with exactly enough room.
     pub fn exact_room(&mut self, registry: u8, octets: &[u8]) {
         let shown = self.shown(registry, octets);
-        let earlier = earlier(&mut self.random);
-        let mut tape = |room| tapes::with_room(&mut self.random, &earlier, room);
+        let layout = self.tally.layout();
+        let earlier = earlier(&mut self.random, layout);
+        let mut tape = |room| tapes::with_room(&mut self.random, layout, &earlier, room);
         self.tally.walk(&shown, &tape(shown.needed_by_walk()));
         self.tally.push(&shown, &tape(shown.needed_by_push()));
     }
@@ -51,16 +53,14 @@ impl Comparison {
     /// Compares a walk or, three times out of four, a push of a random area onto a random tape.
     pub fn any_case(&mut self) {
         let random = &mut self.random;
-        let own = random.below(6);
-        let octets = any_octets(random, own as u8);
-        let registry = any_registry(random, own);
-        let base = any_base(random, octets.len() as u64);
+        let layout = self.tally.layout();
+        let (registry, base, octets) = any_area(random);
         let shown = Shown::of(Area::new(registry, base, &octets));
         if random.below(4) > 0 {
-            let tape = any_tape(random, shown.needed_by_push());
+            let tape = any_tape(random, layout, shown.needed_by_push());
             self.tally.push(&shown, &tape);
         } else {
-            let tape = any_tape(random, shown.needed_by_walk());
+            let tape = any_tape(random, layout, shown.needed_by_walk());
             self.tally.walk(&shown, &tape);
         }
     }
@@ -73,15 +73,24 @@ impl Comparison {
 }
 
 /// Records that stand on a tape before a call: none, a forest, or any words.
-pub fn earlier(random: &mut Random) -> Vec<Record> {
+pub fn earlier(random: &mut Random, layout: Layout) -> Vec<Record> {
     let count = random.below(MOST_EARLIER + 1);
     match random.below(4) {
         0 => Vec::new(),
         1 => (0..count)
-            .map(|_| [(); 6].map(|()| random.word()))
+            .map(|_| tapes::any_record(random, layout))
             .collect(),
-        _ => tapes::forest(random, count as usize, 4),
+        _ => tapes::forest(random, layout, count as usize, 4),
     }
+}
+
+/// The registry, the base and the octets of a random area, which now and then is refused.
+pub fn any_area(random: &mut Random) -> (u64, u64, Vec<u8>) {
+    let own = random.below(6);
+    let octets = any_octets(random, own as u8);
+    let registry = any_registry(random, own);
+    let base = any_base(random, octets.len() as u64);
+    (registry, base, octets)
 }
 
 /// A base that an area of this length is not refused at: 0, the greatest, or any.
@@ -119,7 +128,7 @@ fn any_octets(random: &mut Random, registry: u8) -> Vec<u8> {
 
 /// A tape for a call that needs so many records, now and then with too little room or a wrong
 /// header.
-fn any_tape(random: &mut Random, needed: usize) -> Vec<u64> {
+fn any_tape(random: &mut Random, layout: Layout, needed: usize) -> Vec<u64> {
     let more = needed + random.below(5) as usize;
     let room = match random.below(16) {
         0 => 0,
@@ -127,8 +136,8 @@ fn any_tape(random: &mut Random, needed: usize) -> Vec<u64> {
         3..=5 => more,
         _ => needed,
     };
-    let earlier = earlier(random);
-    let mut tape = tapes::with_room(random, &earlier, room);
+    let earlier = earlier(random, layout);
+    let mut tape = tapes::with_room(random, layout, &earlier, room);
     if random.below(64) == 0 {
         tape[random.below(4) as usize] = random.word();
     }
@@ -142,14 +151,16 @@ mod tests {
 
     #[test]
     fn random_cases_meet_every_answer() {
-        let mut comparison = Comparison::new(Random::new(1));
-        (0..40_000).for_each(|_| comparison.any_case());
-        let tally = comparison.tally;
-        assert_eq!(tally.calls(), 40_000);
-        assert!(tally.calls_of(Call::Push) > 28_000);
-        for call in [Call::Walk, Call::Push] {
-            tally.assert_answers(call, &[1, 3, 4], 40);
-            tally.assert_answers(call, &[0, 5], 900);
+        for layout in Layout::ALL {
+            let mut comparison = Comparison::new(layout, Random::new(1));
+            (0..40_000).for_each(|_| comparison.any_case());
+            let tally = comparison.tally;
+            assert_eq!(tally.calls(), 40_000);
+            assert!(tally.calls_of(Call::Push) > 28_000);
+            for call in [Call::Walk, Call::Push] {
+                tally.assert_answers(call, &[1, 3, 4], 40);
+                tally.assert_answers(call, &[0, 5], 900);
+            }
         }
     }
 
@@ -172,9 +183,11 @@ mod tests {
 
     #[test]
     fn earlier_records_are_few_and_of_every_count() {
-        let mut random = Random::new(1);
-        let mut met = [false; MOST_EARLIER as usize + 1];
-        (0..1_000).for_each(|_| met[earlier(&mut random).len()] = true);
-        assert_eq!(met, [true; 7]);
+        for layout in Layout::ALL {
+            let mut random = Random::new(1);
+            let mut met = [false; MOST_EARLIER as usize + 1];
+            (0..1_000).for_each(|_| met[earlier(&mut random, layout).len()] = true);
+            assert_eq!(met, [true; 7]);
+        }
     }
 }

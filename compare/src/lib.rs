@@ -6,7 +6,10 @@ pub mod agree;
 pub mod areas;
 pub mod brief;
 pub mod cases;
+pub mod layout;
 pub mod lent;
+#[allow(unsafe_code)]
+pub mod mapped;
 pub mod model;
 #[allow(unsafe_code)]
 pub mod native;

@@ -8,7 +8,7 @@ use compare::agree::Call;
 use compare::cases::Comparison;
 
 /// What the program says when it is called with other words.
-const USAGE: &str = "usage: compare CASES   WAKKEMOSUT_SEED names another seed";
+const USAGE: &str = "usage: compare CASES   in each layout; WAKKEMOSUT_SEED names another seed";
 
 /// The number of cases after which a line is printed.
 const STRIDE: u64 = 1_000_000;
@@ -35,17 +35,25 @@ fn number(words: &[String]) -> Option<u64> {
     }
 }
 
-/// Compares so many cases; the first difference ends the program with a message.
+/// Compares so many cases in each layout; the first difference ends the program with a message.
 fn compare(cases: u64) {
     let start = Instant::now();
-    let mut comparison = Comparison::of_this_run();
+    for comparison in Comparison::in_each_layout() {
+        compare_layout(comparison, cases, start);
+    }
+}
+
+/// Compares so many cases in one layout.
+fn compare_layout(mut comparison: Comparison, cases: u64, start: Instant) {
+    let layout = comparison.tally.layout();
     for case in 1..=cases {
         comparison.any_case();
         if case % STRIDE == 0 {
-            println!("{case} cases, {} seconds", start.elapsed().as_secs());
+            let seconds = start.elapsed().as_secs();
+            println!("{layout}: {case} cases, {seconds} seconds");
         }
     }
     comparison.tally.assert_calls(cases);
     let pushes = comparison.tally.calls_of(Call::Push);
-    println!("{cases} cases, {pushes} of them pushes: no difference");
+    println!("{layout}: {cases} cases, {pushes} of them pushes: no difference");
 }

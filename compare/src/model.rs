@@ -1,12 +1,8 @@
-//! The calls on a tape, as the text of document 01 has them.
+//! The calls on a tape, as the texts of document 01 and, for the slim layout, of document 02 have
+//! them.
 
+use crate::layout::{HEADER, Layout};
 use crate::native::{Outcome, Record};
-
-/// The words of the header.
-pub const HEADER: usize = 4;
-
-/// The words of a record.
-pub const RECORD: usize = 6;
 
 /// The greatest number of containers in each other, the outermost counted.
 const MOST_DEEP: u64 = 4;
@@ -32,19 +28,19 @@ struct Tree {
 }
 
 /// What a clear gives and leaves.
-pub fn clear(tape: &[u64]) -> After {
+pub fn clear(layout: Layout, tape: &[u64]) -> After {
     match tape.get(HEADER..) {
         Some(rest) => After {
             outcome: bare(0),
-            tape: [&[0, 4, 6, 0], rest].concat(),
+            tape: [&layout.header(0), rest].concat(),
         },
         None => unchanged(tape, bare(4)),
     }
 }
 
 /// What a cut back to a mark gives and leaves.
-pub fn cut_back(tape: &[u64], mark: u64) -> After {
-    match cut_answer(tape, mark) {
+pub fn cut_back(layout: Layout, tape: &[u64], mark: u64) -> After {
+    match cut_answer(layout, tape, mark) {
         0 => After {
             outcome: bare(0),
             tape: [&[mark], &tape[1..]].concat(),
@@ -54,16 +50,16 @@ pub fn cut_back(tape: &[u64], mark: u64) -> After {
 }
 
 /// What a read of one position gives.
-pub fn read(tape: &[u64], at: u64) -> (Record, Outcome) {
-    match sound_record(tape, at) {
+pub fn read(layout: Layout, tape: &[u64], at: u64) -> (Record, Outcome) {
+    match sound_record(layout, tape, at) {
         Ok(record) => (record, bare(0)),
-        Err(answer) => ([0; RECORD], bare(answer)),
+        Err(answer) => ([0; 6], bare(answer)),
     }
 }
 
 /// What the nest test says.
-pub fn nest_test(tape: &[u64]) -> bool {
-    let trees = used_records(tape).and_then(trees);
+pub fn nest_test(layout: Layout, tape: &[u64]) -> bool {
+    let trees = used_records(layout, tape).and_then(trees);
     trees.is_some_and(|trees| trees.iter().all(|tree| tree.deep <= MOST_DEEP))
 }
 
@@ -86,13 +82,17 @@ pub fn unchanged(tape: &[u64], outcome: Outcome) -> After {
 }
 
 /// The used records; nothing where answer 4 is due.
-pub fn used_records(tape: &[u64]) -> Option<&[Record]> {
+pub fn used_records(
+    layout: Layout,
+    tape: &[u64],
+) -> Option<impl DoubleEndedIterator<Item = Record> + ExactSizeIterator> {
     let (header, rest) = tape.split_first_chunk::<HEADER>()?;
-    let (places, _) = rest.as_chunks::<RECORD>();
-    match *header {
-        [used, 4, 6, 0] => places.get(..index(used)?),
-        _ => None,
+    let used = index(header[0])?;
+    if *header != layout.header(header[0]) || used > layout.room(tape.len()) {
+        return None;
     }
+    let places = rest.chunks_exact(layout.record_words()).take(used);
+    Some(places.map(move |words| layout.record(words)))
 }
 
 /// A 64-bit number as an index, if it can be one.
@@ -101,41 +101,39 @@ fn index(number: u64) -> Option<usize> {
 }
 
 /// The answer to a cut back.
-fn cut_answer(tape: &[u64], mark: u64) -> u64 {
-    let Some(records) = used_records(tape) else {
+fn cut_answer(layout: Layout, tape: &[u64], mark: u64) -> u64 {
+    let Some(records) = used_records(layout, tape) else {
         return 4;
     };
-    match index(mark).and_then(|count| records.get(..count)) {
+    match index(mark).filter(|count| *count <= records.len()) {
         None => 6,
-        Some(kept) if kept.iter().any(|record| record[5] > mark) => 7,
+        Some(kept) if records.take(kept).any(|record| record[5] > mark) => 7,
         Some(_) => 0,
     }
 }
 
 /// The record at a position, or why a read of it is refused.
-fn sound_record(tape: &[u64], at: u64) -> Result<Record, u64> {
-    let records = used_records(tape).ok_or(4_u64)?;
-    let found = index(at).and_then(|at| records.get(at));
+fn sound_record(layout: Layout, tape: &[u64], at: u64) -> Result<Record, u64> {
+    let mut records = used_records(layout, tape).ok_or(4_u64)?;
+    let found = index(at).and_then(|at| records.nth(at));
     let record = found.ok_or(6_u64)?;
-    if is_sound(record) {
-        Ok(*record)
-    } else {
-        Err(8)
-    }
+    if is_sound(record) { Ok(record) } else { Err(8) }
 }
 
 /// Whether a read gives this record.
-fn is_sound(record: &Record) -> bool {
-    let [kind, start, end, ..] = *record;
+fn is_sound(record: Record) -> bool {
+    let [kind, start, end, ..] = record;
     let [label, shape, ..] = kind.to_le_bytes();
     label <= 56 && shape <= 8 && kind < 393_216 && start <= end
 }
 
 /// The trees that the records split into, the last tree first; nothing where
 /// they do not split. They grow from the last record to the first.
-fn trees(records: &[Record]) -> Option<Vec<Tree>> {
+fn trees(
+    records: impl DoubleEndedIterator<Item = Record> + ExactSizeIterator,
+) -> Option<Vec<Tree>> {
     let mut grown = Vec::new();
-    for (position, record) in records.iter().enumerate().rev() {
+    for (position, record) in records.enumerate().rev() {
         let tree = tree(position as u64, record, &mut grown)?;
         grown.push(tree);
     }
@@ -144,8 +142,8 @@ fn trees(records: &[Record]) -> Option<Vec<Tree>> {
 
 /// The tree that starts with this record. It takes its children from the
 /// trees after it.
-fn tree(start: u64, record: &Record, after: &mut Vec<Tree>) -> Option<Tree> {
-    let [kind, _, _, _, first_child, end] = *record;
+fn tree(start: u64, record: Record, after: &mut Vec<Tree>) -> Option<Tree> {
+    let [kind, _, _, _, first_child, end] = record;
     let next = start + 1;
     match kind.to_le_bytes()[1] {
         7 | 8 if first_child == next => container(start, end, after),

@@ -1,5 +1,7 @@
 //! The proved library over its C boundary.
 
+use crate::layout::Layout;
+
 /// The numbers that a call gives back.
 #[repr(C)]
 #[derive(Clone, Copy, Debug, PartialEq, Eq)]
@@ -52,7 +54,8 @@ impl<Place> Guarded<Place> {
     }
 }
 
-/// The words of a record.
+/// A record as a read gives it, in either layout: word 0, start, end, number, first child, child
+/// end.
 pub type Record = [u64; 6];
 
 /// An area that is lent to a walk or a push.
@@ -96,40 +99,111 @@ unsafe extern "C" {
     fn wakkemosut_name(registry: u64, t: u64, out: *mut u8, length: usize, outcome: *mut Outcome);
     /// The library's mask call.
     fn wakkemosut_mask(prefix: *mut u8, length: usize, bits: usize);
-    /// The library's clear call.
-    fn wakkemosut_clear(tape: *mut u64, length: usize, outcome: *mut Outcome);
-    /// The library's cut back call.
-    fn wakkemosut_cut_back(tape: *mut u64, length: usize, mark: u64, outcome: *mut Outcome);
-    /// The library's read call.
-    fn wakkemosut_read(
+}
+
+/// The library's calls on tapes of one layout.
+struct Calls {
+    /// Clear.
+    clear: unsafe extern "C" fn(tape: *mut u64, length: usize, outcome: *mut Outcome),
+    /// Cut back.
+    cut_back: unsafe extern "C" fn(tape: *mut u64, length: usize, mark: u64, outcome: *mut Outcome),
+    /// Read.
+    read: unsafe extern "C" fn(
         tape: *const u64,
         length: usize,
         at: u64,
         record: *mut Record,
         outcome: *mut Outcome,
-    );
-    /// The library's nest test: 1 for yes, 0 for no.
-    fn wakkemosut_nest_test(tape: *const u64, length: usize) -> u8;
-    /// The library's walk call.
-    fn wakkemosut_walk(
-        area: *const u8,
-        area_length: usize,
-        base: u64,
-        registry: u64,
-        tape: *mut u64,
-        words: usize,
-        outcome: *mut Outcome,
-    );
-    /// The library's push call.
-    fn wakkemosut_push(
-        area: *const u8,
-        area_length: usize,
-        base: u64,
-        registry: u64,
-        tape: *mut u64,
-        words: usize,
-        outcome: *mut Outcome,
-    );
+    ),
+    /// The nest test: 1 for yes, 0 for no.
+    nest_test: unsafe extern "C" fn(tape: *const u64, length: usize) -> u8,
+    /// Walk.
+    walk: OnArea,
+    /// Push.
+    push: OnArea,
+}
+
+/// Declares the library's calls on tapes of one layout, and gathers them under a name.
+macro_rules! calls {
+    (
+        $name:ident: $clear:ident $cut_back:ident $read:ident
+        $nest_test:ident $walk:ident $push:ident
+    ) => {
+        unsafe extern "C" {
+            /// The library's clear call.
+            fn $clear(tape: *mut u64, length: usize, outcome: *mut Outcome);
+            /// The library's cut back call.
+            fn $cut_back(tape: *mut u64, length: usize, mark: u64, outcome: *mut Outcome);
+            /// The library's read call.
+            fn $read(
+                tape: *const u64,
+                length: usize,
+                at: u64,
+                record: *mut Record,
+                outcome: *mut Outcome,
+            );
+            /// The library's nest test.
+            fn $nest_test(tape: *const u64, length: usize) -> u8;
+            /// The library's walk call.
+            fn $walk(
+                area: *const u8,
+                area_length: usize,
+                base: u64,
+                registry: u64,
+                tape: *mut u64,
+                words: usize,
+                outcome: *mut Outcome,
+            );
+            /// The library's push call.
+            fn $push(
+                area: *const u8,
+                area_length: usize,
+                base: u64,
+                registry: u64,
+                tape: *mut u64,
+                words: usize,
+                outcome: *mut Outcome,
+            );
+        }
+
+        /// The calls of this layout.
+        static $name: Calls = Calls {
+            clear: $clear,
+            cut_back: $cut_back,
+            read: $read,
+            nest_test: $nest_test,
+            walk: $walk,
+            push: $push,
+        };
+    };
+}
+
+calls! {
+    USUAL:
+    wakkemosut_clear
+    wakkemosut_cut_back
+    wakkemosut_read
+    wakkemosut_nest_test
+    wakkemosut_walk
+    wakkemosut_push
+}
+
+calls! {
+    SLIM:
+    wakkemosut_slim_clear
+    wakkemosut_slim_cut_back
+    wakkemosut_slim_read
+    wakkemosut_slim_nest_test
+    wakkemosut_slim_walk
+    wakkemosut_slim_push
+}
+
+/// The library's calls on tapes of this layout.
+fn calls(layout: Layout) -> &'static Calls {
+    match layout {
+        Layout::Usual => &USUAL,
+        Layout::Slim => &SLIM,
+    }
 }
 
 /// Writes the name of a type to the front of the lent octets.
@@ -163,47 +237,47 @@ pub fn mask(prefix: &mut [u8], bits: usize) {
 }
 
 /// Writes the header of an empty tape.
-pub fn clear(tape: &mut [u64]) -> Outcome {
+pub fn clear(layout: Layout, tape: &mut [u64]) -> Outcome {
     let mut outcome = Guarded::holding(Outcome::UNSET);
     // SAFETY: both pointers are good for reads and writes for the whole call,
     // and the length is that of the lent tape.
-    unsafe { wakkemosut_clear(tape.as_mut_ptr(), tape.len(), &mut outcome.place) };
+    unsafe { (calls(layout).clear)(tape.as_mut_ptr(), tape.len(), &mut outcome.place) };
     outcome.opened()
 }
 
 /// Clears nothing: a null pointer with a length of 0.
-pub fn clear_nothing() -> Outcome {
+pub fn clear_nothing(layout: Layout) -> Outcome {
     let mut outcome = Guarded::holding(Outcome::UNSET);
     // SAFETY: the outcome is good for writes for the whole call, and no word is lent.
-    unsafe { wakkemosut_clear(std::ptr::null_mut(), 0, &mut outcome.place) };
+    unsafe { (calls(layout).clear)(std::ptr::null_mut(), 0, &mut outcome.place) };
     outcome.opened()
 }
 
 /// Lowers the count of records to a mark.
-pub fn cut_back(tape: &mut [u64], mark: u64) -> Outcome {
+pub fn cut_back(layout: Layout, tape: &mut [u64], mark: u64) -> Outcome {
     let mut outcome = Guarded::holding(Outcome::UNSET);
     // SAFETY: both pointers are good for reads and writes for the whole call,
     // and the length is that of the lent tape.
-    unsafe { wakkemosut_cut_back(tape.as_mut_ptr(), tape.len(), mark, &mut outcome.place) };
+    unsafe { (calls(layout).cut_back)(tape.as_mut_ptr(), tape.len(), mark, &mut outcome.place) };
     outcome.opened()
 }
 
 /// Cuts nothing back: a null pointer with a length of 0.
-pub fn cut_back_nothing(mark: u64) -> Outcome {
+pub fn cut_back_nothing(layout: Layout, mark: u64) -> Outcome {
     let mut outcome = Guarded::holding(Outcome::UNSET);
     // SAFETY: the outcome is good for writes for the whole call, and no word is lent.
-    unsafe { wakkemosut_cut_back(std::ptr::null_mut(), 0, mark, &mut outcome.place) };
+    unsafe { (calls(layout).cut_back)(std::ptr::null_mut(), 0, mark, &mut outcome.place) };
     outcome.opened()
 }
 
 /// Reads the record at a position.
-pub fn read(tape: &[u64], at: u64) -> (Record, Outcome) {
+pub fn read(layout: Layout, tape: &[u64], at: u64) -> (Record, Outcome) {
     let mut record = Guarded::holding(UNSET_RECORD);
     let mut outcome = Guarded::holding(Outcome::UNSET);
     // SAFETY: the tape is good for reads, the record and the outcome are good
     // for writes for the whole call, and the length is that of the lent tape.
     unsafe {
-        wakkemosut_read(
+        (calls(layout).read)(
             tape.as_ptr(),
             tape.len(),
             at,
@@ -215,13 +289,13 @@ pub fn read(tape: &[u64], at: u64) -> (Record, Outcome) {
 }
 
 /// Reads a record of nothing: a null pointer with a length of 0.
-pub fn read_nothing(at: u64) -> (Record, Outcome) {
+pub fn read_nothing(layout: Layout, at: u64) -> (Record, Outcome) {
     let mut record = Guarded::holding(UNSET_RECORD);
     let mut outcome = Guarded::holding(Outcome::UNSET);
     // SAFETY: the record and the outcome are good for writes for the whole
     // call, and no word is lent.
     unsafe {
-        wakkemosut_read(
+        (calls(layout).read)(
             std::ptr::null(),
             0,
             at,
@@ -233,46 +307,46 @@ pub fn read_nothing(at: u64) -> (Record, Outcome) {
 }
 
 /// Whether the used records split into trees.
-pub fn nest_test(tape: &[u64]) -> bool {
+pub fn nest_test(layout: Layout, tape: &[u64]) -> bool {
     // SAFETY: the pointer is good for reads for the whole call, and the
     // length is that of the lent tape.
-    yes_or_no(unsafe { wakkemosut_nest_test(tape.as_ptr(), tape.len()) })
+    yes_or_no(unsafe { (calls(layout).nest_test)(tape.as_ptr(), tape.len()) })
 }
 
 /// Tests the nest of nothing: a null pointer with a length of 0.
-pub fn nest_test_nothing() -> bool {
+pub fn nest_test_nothing(layout: Layout) -> bool {
     // SAFETY: no word is lent.
-    yes_or_no(unsafe { wakkemosut_nest_test(std::ptr::null(), 0) })
+    yes_or_no(unsafe { (calls(layout).nest_test)(std::ptr::null(), 0) })
 }
 
 /// Appends what a walk shows of an area to the tape.
-pub fn walk(area: Area<'_>, tape: &mut [u64]) -> Outcome {
-    append(wakkemosut_walk, area, tape)
+pub fn walk(layout: Layout, area: Area<'_>, tape: &mut [u64]) -> Outcome {
+    append(calls(layout).walk, area, tape)
 }
 
 /// Appends what a push shows of an area to the tape.
-pub fn push(area: Area<'_>, tape: &mut [u64]) -> Outcome {
-    append(wakkemosut_push, area, tape)
+pub fn push(layout: Layout, area: Area<'_>, tape: &mut [u64]) -> Outcome {
+    append(calls(layout).push, area, tape)
 }
 
 /// Walks no octets onto no tape: null pointers with a length of 0.
-pub fn walk_nothing(registry: u64, base: u64) -> Outcome {
-    append_nothing(wakkemosut_walk, registry, base)
+pub fn walk_nothing(layout: Layout, registry: u64, base: u64) -> Outcome {
+    append_nothing(calls(layout).walk, registry, base)
 }
 
 /// Pushes no octets onto no tape: null pointers with a length of 0.
-pub fn push_nothing(registry: u64, base: u64) -> Outcome {
-    append_nothing(wakkemosut_push, registry, base)
+pub fn push_nothing(layout: Layout, registry: u64, base: u64) -> Outcome {
+    append_nothing(calls(layout).push, registry, base)
 }
 
 /// Walks no octets, a null pointer with a length of 0, onto this tape.
-pub fn walk_no_octets(registry: u64, base: u64, tape: &mut [u64]) -> Outcome {
-    append_no_octets(wakkemosut_walk, registry, base, tape)
+pub fn walk_no_octets(layout: Layout, registry: u64, base: u64, tape: &mut [u64]) -> Outcome {
+    append_no_octets(calls(layout).walk, registry, base, tape)
 }
 
 /// Pushes no octets, a null pointer with a length of 0, onto this tape.
-pub fn push_no_octets(registry: u64, base: u64, tape: &mut [u64]) -> Outcome {
-    append_no_octets(wakkemosut_push, registry, base, tape)
+pub fn push_no_octets(layout: Layout, registry: u64, base: u64, tape: &mut [u64]) -> Outcome {
+    append_no_octets(calls(layout).push, registry, base, tape)
 }
 
 /// Appends what a call shows of an area to the tape.

@@ -22,6 +22,9 @@ const LIMITS: [u64; 12] = [
     u64::MAX - 4,
 ];
 
+/// Numbers at the limits of half a word.
+const HALF_LIMITS: [u64; 4] = [0, 1, (1 << 32) - 2, (1 << 32) - 1];
+
 /// The seed of this run.
 pub fn seed() -> u64 {
     match std::env::var(SEED_VARIABLE) {
@@ -69,15 +72,17 @@ impl Random {
         items[self.below(items.len() as u64) as usize]
     }
 
-    /// The next word: small, near a limit, of any size, or any number at all.
+    /// The next word: small, near a limit, of any size, with each half at a limit of its own, or
+    /// any number at all.
     pub fn word(&mut self) -> u64 {
-        match self.below(4) {
+        match self.below(5) {
             0 => self.below(12),
             1 => self
                 .pick(&LIMITS)
                 .wrapping_add(self.below(5))
                 .wrapping_sub(2),
             2 => self.number() >> self.below(64),
+            3 => self.pick(&HALF_LIMITS) + (self.pick(&HALF_LIMITS) << 32),
             _ => self.number(),
         }
     }
@@ -124,6 +129,17 @@ mod tests {
         let words: Vec<u64> = (0..1_000).map(|_| random.word()).collect();
         for word in [0, 1, 11, u64::MAX - 1, u64::MAX] {
             assert!(words.contains(&word), "{word}");
+        }
+    }
+
+    #[test]
+    fn both_halves_of_a_word_come_near_both_ends() {
+        let mut random = Random::new(1);
+        let words: Vec<u64> = (0..1_000).map(|_| random.word()).collect();
+        for lower in [0, 1, 0xFFFF_FFFE, 0xFFFF_FFFF] {
+            for upper in [0, 1, 0xFFFF_FFFE, 0xFFFF_FFFF] {
+                assert!(words.contains(&(lower + (upper << 32))), "{lower} {upper}");
+            }
         }
     }
 }

@@ -1,7 +1,9 @@
 //! What a walk and a push of an area give and leave: the records by the
-//! oracle, the refusals and the words by the text of document 01.
+//! oracle, the refusals and the words by the texts of document 01 and, for the slim layout, of
+//! document 02.
 
-use crate::model::{After, HEADER, RECORD, bare, unchanged, used_records};
+use crate::layout::{HEADER, Layout};
+use crate::model::{After, bare, unchanged, used_records};
 use crate::native::{Area, Outcome, Record};
 
 /// The greatest number of octets of an area.
@@ -51,13 +53,20 @@ impl<'a> Shown<'a> {
     }
 
     /// What a walk gives and leaves.
-    pub fn walk(&self, tape: &[u64]) -> After {
-        self.append(tape, self.needed_by_walk())
+    pub fn walk(&self, layout: Layout, tape: &[u64]) -> After {
+        self.append(layout, tape, self.needed_by_walk())
     }
 
     /// What a push gives and leaves.
-    pub fn push(&self, tape: &[u64]) -> After {
-        self.append(tape, self.needed_by_push())
+    pub fn push(&self, layout: Layout, tape: &[u64]) -> After {
+        self.append(layout, tape, self.needed_by_push())
+    }
+
+    /// The records of a push onto a tape with so many before them.
+    pub fn records_behind(&self, earlier: u64) -> impl Iterator<Item = Record> {
+        self.records
+            .iter()
+            .map(move |record| moved(*record, earlier))
     }
 
     /// What the oracle shows of an area that is not refused.
@@ -72,28 +81,25 @@ impl<'a> Shown<'a> {
             refusal: None,
             covered: push.covered,
             walked: array.map_or(0, |array| array.past_children as usize),
-            records: push.records.iter().map(words).collect(),
+            records: push.records.iter().map(of_oracle).collect(),
         }
     }
 
     /// What a call gives and leaves that appends the first `count` records.
-    fn append(&self, tape: &[u64], count: usize) -> After {
+    fn append(&self, layout: Layout, tape: &[u64], count: usize) -> After {
         if let Some(answer) = self.refusal {
             return unchanged(tape, bare(answer));
         }
-        let Some(earlier) = used_records(tape) else {
+        let Some(earlier) = used_records(layout, tape).map(|records| records.len()) else {
             return unchanged(tape, bare(4));
         };
         let needed = count as u64;
-        let start = HEADER + RECORD * earlier.len();
-        let mut left = tape.to_vec();
-        let Some(place) = left.get_mut(start..start + RECORD * count) else {
+        if count > layout.room(tape.len()) - earlier {
             return unchanged(tape, outcome(5, 0, 0, needed));
-        };
-        let (places, _) = place.as_chunks_mut::<RECORD>();
-        for (place, record) in places.iter_mut().zip(&self.records) {
-            *place = moved(*record, earlier.len() as u64);
         }
+        let mut left = tape.to_vec();
+        let free = &mut left[HEADER + layout.record_words() * earlier..];
+        layout.write_all(self.records_behind(earlier as u64).take(count), free);
         left[0] += needed;
         After {
             outcome: outcome(0, self.covered, needed, needed),
@@ -135,8 +141,8 @@ pub fn bound(octets: usize) -> usize {
     }
 }
 
-/// The words of one of the oracle's records.
-fn words(record: &oracle::Record) -> Record {
+/// One of the oracle's records, as a read gives it.
+fn of_oracle(record: &oracle::Record) -> Record {
     let [label, shape, registry] = [record.label, record.shape, record.registry].map(u64::from);
     [
         label + 256 * shape + 65_536 * registry,

@@ -1,22 +1,24 @@
 //! Random tapes, and arguments for the calls on them.
 
-use crate::model::{HEADER, RECORD};
+use crate::layout::{HEADER, Layout};
 use crate::native::Record;
 use crate::random::Random;
 
-/// The number of records that this many words have room for.
-pub fn room(words: usize) -> usize {
-    words.saturating_sub(HEADER) / RECORD
-}
-
 /// A random forest of at most so many records, its containers at most so deep.
-pub fn forest(random: &mut Random, most: usize, deep: u64) -> Vec<Record> {
+pub fn forest(random: &mut Random, layout: Layout, most: usize, deep: u64) -> Vec<Record> {
     let mut records = Vec::new();
     let least = random.below(most as u64 + 1) as usize;
     while records.len() < least {
         grow(random, &mut records, most, deep);
     }
-    records
+    let fitted = records.into_iter().map(|record| layout.fitted(record));
+    fitted.collect()
+}
+
+/// The record of random words.
+pub fn any_record(random: &mut Random, layout: Layout) -> Record {
+    let words: Vec<u64> = (0..layout.record_words()).map(|_| random.word()).collect();
+    layout.record(&words)
 }
 
 /// Leaves that a read gives, as many as asked for.
@@ -25,48 +27,50 @@ pub fn leaves(count: u64) -> Vec<Record> {
 }
 
 /// A tape whose used records are these, with no word after them.
-pub fn full(records: &[Record]) -> Vec<u64> {
-    let header = [records.len() as u64, 4, 6, 0];
-    [&header, records.as_flattened()].concat()
+pub fn full(layout: Layout, records: &[Record]) -> Vec<u64> {
+    let mut tape = vec![0; HEADER + layout.record_words() * records.len()];
+    let (header, places) = tape.split_at_mut(HEADER);
+    header.copy_from_slice(&layout.header(records.len() as u64));
+    layout.write_all(records.iter().copied(), places);
+    tape
 }
 
 /// A tape whose used records are these, with random words after them.
-pub fn tape(random: &mut Random, records: &[Record], unused: usize) -> Vec<u64> {
-    let mut tape = full(records);
+pub fn tape(random: &mut Random, layout: Layout, records: &[Record], unused: usize) -> Vec<u64> {
+    let mut tape = full(layout, records);
     tape.extend((0..unused).map(|_| random.word()));
     tape
 }
 
 /// A tape whose used records are these, with room for so many more and random words in it.
-pub fn with_room(random: &mut Random, records: &[Record], room: usize) -> Vec<u64> {
-    let over = random.below(RECORD as u64) as usize;
-    tape(random, records, RECORD * room + over)
+pub fn with_room(random: &mut Random, layout: Layout, records: &[Record], room: usize) -> Vec<u64> {
+    let size = layout.record_words();
+    let over = random.below(size as u64) as usize;
+    tape(random, layout, records, size * room + over)
 }
 
 /// A tape of this length whose words are random. Most headers and records are
 /// near what they should be.
-pub fn noise(random: &mut Random, length: usize) -> Vec<u64> {
+pub fn noise(random: &mut Random, layout: Layout, length: usize) -> Vec<u64> {
     let mut tape: Vec<u64> = (0..length).map(|_| random.word()).collect();
-    let room = room(length) as u64;
-    let Some((header, rest)) = tape.split_first_chunk_mut::<HEADER>() else {
+    let room = layout.room(length) as u64;
+    let Some((header, places)) = tape.split_first_chunk_mut::<HEADER>() else {
         return tape;
     };
     if random.below(16) > 0 {
-        *header = likely_header(random, room);
+        *header = likely_header(random, layout, room);
     }
     if random.below(4) > 0 {
-        let (places, _) = rest.as_chunks_mut::<RECORD>();
-        (1..).zip(places).for_each(|(next, place)| {
-            *place = likely_record(random, next, room);
-        });
+        let records = (1..).map(|next| layout.fitted(likely_record(random, next, room)));
+        layout.write_all(records, places);
     }
     tape
 }
 
 /// Arguments of every size, for the calls on a tape.
-pub fn arguments(random: &mut Random, tape: &[u64]) -> Vec<u64> {
+pub fn arguments(random: &mut Random, layout: Layout, tape: &[u64]) -> Vec<u64> {
     let used = tape.first().copied().unwrap_or(0);
-    let mut arguments = vec![0, 1, used, room(tape.len()) as u64];
+    let mut arguments = vec![0, 1, used, layout.room(tape.len()) as u64];
     arguments.extend([used.wrapping_sub(1), used.wrapping_add(1)]);
     for great in [1 << 32, 1 << 61, 1 << 62, 1 << 63, u64::MAX / 6 + 1] {
         arguments.extend([great, great + random.below(10)]);
@@ -117,7 +121,7 @@ fn record(random: &mut Random, shape: u64, first_child: u64, end: u64) -> Record
 }
 
 /// A header that is often right; the count is often that of the room, or near it.
-fn likely_header(random: &mut Random, room: u64) -> [u64; HEADER] {
+fn likely_header(random: &mut Random, layout: Layout, room: u64) -> [u64; HEADER] {
     let used = match random.below(8) {
         0 => room.wrapping_sub(1),
         1 => room + 1,
@@ -125,7 +129,7 @@ fn likely_header(random: &mut Random, room: u64) -> [u64; HEADER] {
         3 | 4 => room,
         _ => random.below(room + 1),
     };
-    let mut header = [used, 4, 6, 0];
+    let mut header = layout.header(used);
     if random.below(8) == 0 {
         let place = 1 + random.below(3) as usize;
         header[place] = random.word();
@@ -150,37 +154,4 @@ fn likely_record(random: &mut Random, next: u64, room: u64) -> Record {
 }
 
 #[cfg(test)]
-mod tests {
-    use super::*;
-    use crate::model;
-
-    #[test]
-    fn a_forest_is_a_nest_while_it_is_4_deep() {
-        let mut random = Random::new(1);
-        for round in 0..1_000 {
-            let forest = forest(&mut random, 30, round % 5);
-            assert!(model::nest_test(&tape(&mut random, &forest, 3)));
-        }
-    }
-
-    #[test]
-    fn a_deeper_forest_is_often_no_nest() {
-        let mut random = Random::new(1);
-        let nests = (0..1_000).filter(|_| {
-            let forest = forest(&mut random, 15, 6);
-            model::nest_test(&tape(&mut random, &forest, 3))
-        });
-        assert!((200..800).contains(&nests.count()));
-    }
-
-    #[test]
-    fn lengths_are_as_asked_for() {
-        let mut random = Random::new(1);
-        for length in 0..60 {
-            assert_eq!(noise(&mut random, length).len(), length);
-            assert!(forest(&mut random, length, 4).len() <= length);
-            let records = vec![[0; 6]; room(length)];
-            assert_eq!(tape(&mut random, &records, 5).len(), 9 + 6 * room(length));
-        }
-    }
-}
+mod tests;

@@ -41,33 +41,38 @@ fn compare_every_area(
     1 + counts.sum::<u64>()
 }
 
-#[test]
-fn every_area_of_up_to_2_octets_is_that_of_the_rust() {
-    let mut comparison = Comparison::of_this_run();
-    let any: Vec<u8> = (0..=u8::MAX).collect();
-    let mut count = 0;
-    for registry in 0..=oracle::LAST_REGISTRY {
-        count += compare_every_area(&mut comparison, registry, &mut vec![], &any, MOST_OF_ANY);
-    }
-    assert_eq!(count, 6 * (1 + 256 + 65_536));
+/// Asserts that so many areas were compared, in rooms enough and too little.
+fn assert_compared(comparison: &Comparison, count: u64) {
     comparison.tally.assert_calls(6 * count);
     comparison.tally.assert_answers(Call::Walk, &[0, 5], count);
     comparison.tally.assert_answers(Call::Push, &[0, 5], count);
 }
 
+#[test]
+fn every_area_of_up_to_2_octets_is_that_of_the_rust() {
+    let any: Vec<u8> = (0..=u8::MAX).collect();
+    for mut comparison in Comparison::in_each_layout() {
+        let mut count = 0;
+        for registry in 0..=oracle::LAST_REGISTRY {
+            count += compare_every_area(&mut comparison, registry, &mut vec![], &any, MOST_OF_ANY);
+        }
+        assert_eq!(count, 6 * (1 + 256 + 65_536));
+        assert_compared(&comparison, count);
+    }
+}
+
 /// Compares every area at boundaries in these registries.
 fn compare_boundaries(registries: &[u8]) {
-    let mut comparison = Comparison::of_this_run();
-    let mut count = 0;
-    for registry in registries {
-        let octets = ALPHABETS[usize::from(*registry)];
-        let most = MOST_AT_BOUNDARIES;
-        count += compare_every_area(&mut comparison, *registry, &mut vec![], octets, most);
+    for mut comparison in Comparison::in_each_layout() {
+        let mut count = 0;
+        for registry in registries {
+            let octets = ALPHABETS[usize::from(*registry)];
+            let most = MOST_AT_BOUNDARIES;
+            count += compare_every_area(&mut comparison, *registry, &mut vec![], octets, most);
+        }
+        assert!(count > 800_000);
+        assert_compared(&comparison, count);
     }
-    assert!(count > 800_000);
-    comparison.tally.assert_calls(6 * count);
-    comparison.tally.assert_answers(Call::Walk, &[0, 5], count);
-    comparison.tally.assert_answers(Call::Push, &[0, 5], count);
 }
 
 #[test]

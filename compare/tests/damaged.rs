@@ -29,48 +29,53 @@ fn copies(area: &[u8]) -> Vec<Vec<u8>> {
 
 #[test]
 fn every_copy_with_one_damage_is_that_of_the_rust() {
-    let mut comparison = Comparison::of_this_run();
-    for area in oracle::areas() {
-        comparison.every_room(area.registry, &area.octets);
-        for copy in copies(&area.octets) {
-            comparison.exact_room(area.registry, &copy);
+    for mut comparison in Comparison::in_each_layout() {
+        for area in oracle::areas() {
+            comparison.every_room(area.registry, &area.octets);
+            for copy in copies(&area.octets) {
+                comparison.exact_room(area.registry, &copy);
+            }
         }
+        comparison.tally.assert_calls(100_000);
+        comparison.tally.assert_answers(Call::Push, &[0], 50_000);
+        comparison.tally.assert_answers(Call::Walk, &[0], 50_000);
     }
-    comparison.tally.assert_calls(100_000);
-    comparison.tally.assert_answers(Call::Push, &[0], 50_000);
-    comparison.tally.assert_answers(Call::Walk, &[0], 50_000);
 }
 
 #[test]
 fn every_area_in_another_registry_is_that_of_the_rust() {
-    let mut comparison = Comparison::of_this_run();
-    for area in oracle::areas() {
-        for registry in 0..=oracle::LAST_REGISTRY {
-            comparison.every_room(registry, &area.octets);
+    for mut comparison in Comparison::in_each_layout() {
+        for area in oracle::areas() {
+            for registry in 0..=oracle::LAST_REGISTRY {
+                comparison.every_room(registry, &area.octets);
+            }
         }
+        comparison.tally.assert_calls(6_000);
+        comparison.tally.assert_answers(Call::Push, &[0, 5], 1_600);
+        comparison.tally.assert_answers(Call::Walk, &[0, 5], 1_600);
     }
-    comparison.tally.assert_calls(6_000);
-    comparison.tally.assert_answers(Call::Push, &[0, 5], 1_600);
-    comparison.tally.assert_answers(Call::Walk, &[0, 5], 1_600);
+}
+
+/// Compares copies of an area, each with several damages.
+fn compare_damages(comparison: &mut Comparison, registry: u8, octets: &[u8]) {
+    for _ in 0..DAMAGES {
+        let mut copy = octets.to_vec();
+        damage(&mut comparison.random, &mut copy);
+        comparison.every_room(registry, &copy);
+    }
 }
 
 #[test]
 fn copies_with_several_damages_are_those_of_the_rust() {
-    let mut comparison = Comparison::of_this_run();
-    for area in oracle::areas() {
-        for _ in 0..DAMAGES {
-            let mut copy = area.octets.clone();
-            damage(&mut comparison.random, &mut copy);
-            comparison.every_room(area.registry, &copy);
+    for mut comparison in Comparison::in_each_layout() {
+        for area in oracle::areas() {
+            compare_damages(&mut comparison, area.registry, &area.octets);
         }
+        let tally = comparison.tally;
+        tally.assert_calls(500_000);
+        tally.assert_answers(Call::Push, &[0, 5], 140_000);
+        tally.assert_answers(Call::Walk, &[0, 5], 120_000);
     }
-    comparison.tally.assert_calls(500_000);
-    comparison
-        .tally
-        .assert_answers(Call::Push, &[0, 5], 140_000);
-    comparison
-        .tally
-        .assert_answers(Call::Walk, &[0, 5], 120_000);
 }
 
 #[test]

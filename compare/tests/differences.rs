@@ -4,9 +4,10 @@
 use std::collections::BTreeSet;
 
 use compare::cases::Comparison;
+use compare::layout::Layout;
 use compare::native::{self, Area};
 use compare::random::Random;
-use compare::{shown, tapes};
+use compare::{model, shown, tapes};
 
 /// The page.
 const PAGE: &str = include_str!("../../docs/DIFFERENCES.md");
@@ -464,7 +465,7 @@ impl Seen {
     }
 
     /// What a record on a tape says.
-    fn of_tape(record: &native::Record) -> Self {
+    fn of_tape(record: native::Record) -> Self {
         let [label, shape, registry, ..] = record[0].to_le_bytes();
         assert_eq!(record[0] >> 24, 0, "word 0 of {record:?}");
         Self {
@@ -581,16 +582,17 @@ fn by_rust(registry: u8, area: &[u8]) -> Vec<Seen> {
     push.records.iter().map(Seen::of_oracle).collect()
 }
 
-/// What the proved library shows of an area.
-fn by_library(registry: u8, area: &[u8]) -> Vec<Seen> {
+/// What the proved library shows of an area on a tape of this layout.
+fn by_library(layout: Layout, registry: u8, area: &[u8]) -> Vec<Seen> {
     let room = vec![[0; 6]; shown::bound(area.len())];
-    let mut tape = tapes::full(&room);
-    native::clear(&mut tape);
-    let outcome = native::push(Area::new(registry.into(), BASE.into(), area), &mut tape);
-    assert_eq!(outcome.answer, 0, "registry {registry}, octets {area:02x?}");
-    let (records, _) = tape[4..].as_chunks::<6>();
-    let written = &records[..outcome.written as usize];
-    written.iter().map(Seen::of_tape).collect()
+    let mut tape = tapes::full(layout, &room);
+    native::clear(layout, &mut tape);
+    let area = Area::new(registry.into(), BASE.into(), area);
+    let outcome = native::push(layout, area, &mut tape);
+    assert_eq!(outcome.answer, 0, "{layout}, {area}");
+    let records = model::used_records(layout, &tape).expect("a tape");
+    assert_eq!(outcome.written, records.len() as u64, "{layout}, {area}");
+    records.map(Seen::of_tape).collect()
 }
 
 /// The types that the Rust reads: registry, type, least length.
@@ -641,19 +643,23 @@ fn the_rust_shows_what_the_page_says() {
 
 #[test]
 fn ours_shows_what_the_page_says() {
-    for case in cases() {
-        let given = by_library(case.registry, &case.area());
-        assert_eq!(given, case.expected(), "{}", case.input());
+    for layout in Layout::ALL {
+        for case in cases() {
+            let given = by_library(layout, case.registry, &case.area());
+            assert_eq!(given, case.expected(), "{layout}, {}", case.input());
+        }
     }
 }
 
 #[test]
 fn ours_is_the_rust_in_every_word() {
-    let mut comparison = Comparison::new(Random::new(1));
-    for case in cases() {
-        comparison.every_room(case.registry, &case.area());
+    for layout in Layout::ALL {
+        let mut comparison = Comparison::new(layout, Random::new(1));
+        for case in cases() {
+            comparison.every_room(case.registry, &case.area());
+        }
+        assert!(comparison.tally.calls() > 500);
     }
-    assert!(comparison.tally.calls() > 500);
 }
 
 #[test]

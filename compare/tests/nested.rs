@@ -70,46 +70,53 @@ fn compare_tail(comparison: &mut Comparison, inner: &[u8], length: usize) {
     }
 }
 
+/// Compares SRv6 tails with this inner area, whatever their length octet says of it.
+fn compare_tails(comparison: &mut Comparison, inner: &[u8]) {
+    for length in (0..=inner.len() + 2).chain([255]) {
+        compare_tail(comparison, inner, length);
+    }
+}
+
 #[test]
 fn every_srv6_tail_is_that_of_the_rust() {
-    let mut comparison = Comparison::of_this_run();
-    for inner in sequences(&INNER_PIECES, MOST_PIECES) {
-        for length in 0..=inner.len() + 2 {
-            compare_tail(&mut comparison, &inner, length);
+    for mut comparison in Comparison::in_each_layout() {
+        for inner in sequences(&INNER_PIECES, MOST_PIECES) {
+            compare_tails(&mut comparison, &inner);
         }
-        compare_tail(&mut comparison, &inner, 255);
+        comparison.tally.assert_calls(290_000);
+        comparison.tally.assert_answers(Call::Push, &[0, 5], 70_000);
+        comparison.tally.assert_answers(Call::Walk, &[0, 5], 70_000);
     }
-    comparison.tally.assert_calls(290_000);
-    comparison.tally.assert_answers(Call::Push, &[0, 5], 70_000);
-    comparison.tally.assert_answers(Call::Walk, &[0, 5], 70_000);
 }
 
 #[test]
 fn every_area_of_srv6_capabilities_is_that_of_the_rust() {
-    let mut comparison = Comparison::of_this_run();
-    for inner in sequences(&INNER_PIECES, MOST_PIECES + 1) {
-        let flags = octets(&mut comparison.random, 2);
-        let whole = entry(25, &[flags, inner].concat());
-        comparison.every_room(2, &whole);
-        comparison.every_room(2, &[&whole[..], &[25, 0]].concat());
+    for mut comparison in Comparison::in_each_layout() {
+        for inner in sequences(&INNER_PIECES, MOST_PIECES + 1) {
+            let flags = octets(&mut comparison.random, 2);
+            let whole = entry(25, &[flags, inner].concat());
+            comparison.every_room(2, &whole);
+            comparison.every_room(2, &[&whole[..], &[25, 0]].concat());
+        }
+        comparison.tally.assert_calls(100_000);
+        comparison.tally.assert_answers(Call::Push, &[0, 5], 25_000);
+        comparison.tally.assert_answers(Call::Walk, &[0, 5], 25_000);
     }
-    comparison.tally.assert_calls(100_000);
-    comparison.tally.assert_answers(Call::Push, &[0, 5], 25_000);
-    comparison.tally.assert_answers(Call::Walk, &[0, 5], 25_000);
 }
 
 #[test]
 fn every_sequence_of_ranges_is_that_of_the_rust() {
-    let mut comparison = Comparison::of_this_run();
-    for ranges in sequences(&RANGE_PIECES, MOST_PIECES + 1) {
-        for t in [2, 22] {
-            let flags = octets(&mut comparison.random, 1);
-            comparison.every_room(2, &entry(t, &[&flags, &ranges[..]].concat()));
+    for mut comparison in Comparison::in_each_layout() {
+        for ranges in sequences(&RANGE_PIECES, MOST_PIECES + 1) {
+            for t in [2, 22] {
+                let flags = octets(&mut comparison.random, 1);
+                comparison.every_room(2, &entry(t, &[&flags, &ranges[..]].concat()));
+            }
         }
+        comparison.tally.assert_calls(150_000);
+        comparison.tally.assert_answers(Call::Push, &[0, 5], 40_000);
+        comparison.tally.assert_answers(Call::Walk, &[0, 5], 40_000);
     }
-    comparison.tally.assert_calls(150_000);
-    comparison.tally.assert_answers(Call::Push, &[0, 5], 40_000);
-    comparison.tally.assert_answers(Call::Walk, &[0, 5], 40_000);
 }
 
 #[test]

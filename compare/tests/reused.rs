@@ -2,6 +2,7 @@
 
 use compare::agree::{Call, Tally};
 use compare::areas;
+use compare::layout::Layout;
 use compare::model;
 use compare::native::Area;
 use compare::random::Random;
@@ -38,14 +39,14 @@ impl UsedTape {
     /// Clears the tape.
     fn clear(&mut self) {
         self.tally.clear(&self.tape);
-        self.tape = model::clear(&self.tape).tape;
+        self.tape = model::clear(self.tally.layout(), &self.tape).tape;
     }
 
     /// Cuts back to a random mark, up to one past the count.
     fn cut_back(&mut self) {
         let mark = self.random.below(self.tape[0] + 2);
         self.tally.cut_back(&self.tape, mark);
-        self.tape = model::cut_back(&self.tape, mark).tape;
+        self.tape = model::cut_back(self.tally.layout(), &self.tape, mark).tape;
     }
 
     /// Walks or pushes a random area.
@@ -56,17 +57,19 @@ impl UsedTape {
         let shown = Shown::of(Area::new(registry, base, &octets));
         if is_walk {
             self.tally.walk(&shown, &self.tape);
-            self.tape = shown.walk(&self.tape).tape;
+            self.tape = shown.walk(self.tally.layout(), &self.tape).tape;
         } else {
             self.tally.push(&shown, &self.tape);
-            self.tape = shown.push(&self.tape).tape;
+            self.tape = shown.push(self.tally.layout(), &self.tape).tape;
         }
     }
 
     /// Starts anew, on a tape of random words that is cleared.
     fn start(&mut self) {
-        let words = 4 + 6 * self.random.below(MOST_ROOM) + self.random.below(6);
-        self.tape = tapes::noise(&mut self.random, words as usize);
+        let layout = self.tally.layout();
+        let size = layout.record_words() as u64;
+        let words = 4 + size * self.random.below(MOST_ROOM) + self.random.below(size);
+        self.tape = tapes::noise(&mut self.random, layout, words as usize);
         self.clear();
     }
 
@@ -79,10 +82,10 @@ impl UsedTape {
     }
 }
 
-#[test]
-fn many_calls_on_one_tape_are_those_of_the_rust_and_the_model() {
+/// Compares many calls on many tapes of one layout, one after another.
+fn compare_tapes(layout: Layout) {
     let mut used = UsedTape {
-        tally: Tally::default(),
+        tally: Tally::of(layout),
         random: Random::of_this_run(),
         tape: Vec::new(),
     };
@@ -91,11 +94,21 @@ fn many_calls_on_one_tape_are_those_of_the_rust_and_the_model() {
         (0..STEPS).for_each(|_| used.step());
         used.look();
     }
-    used.tally.assert_calls(1_000_000);
-    used.tally.assert_answers(Call::Push, &[0, 5], 50_000);
-    used.tally.assert_answers(Call::Walk, &[0, 5], 25_000);
-    used.tally.assert_answers(Call::CutBack, &[0, 6, 7], 1_000);
-    used.tally.assert_answers(Call::Read, &[0, 6], 10_000);
-    used.tally
-        .assert_answers(Call::NestTest, &[1], TAPES as u64);
+    let tally = used.tally;
+    tally.assert_calls(1_000_000);
+    tally.assert_answers(Call::Push, &[0, 5], 50_000);
+    tally.assert_answers(Call::Walk, &[0, 5], 25_000);
+    tally.assert_answers(Call::CutBack, &[0, 6, 7], 1_000);
+    tally.assert_answers(Call::Read, &[0, 6], 10_000);
+    tally.assert_answers(Call::NestTest, &[1], TAPES as u64);
+}
+
+#[test]
+fn many_calls_on_one_tape_are_those_of_the_rust_and_the_model() {
+    compare_tapes(Layout::Usual);
+}
+
+#[test]
+fn many_calls_on_one_slim_tape_are_those_of_the_rust_and_the_model() {
+    compare_tapes(Layout::Slim);
 }

@@ -3,6 +3,7 @@
 use std::thread::Builder;
 
 use compare::areas::{long_entry, long_tail, longest, tail_rows};
+use compare::layout::Layout;
 use compare::model::{self, After};
 use compare::native::{self, Area, Outcome, Record};
 use compare::shown::{MOST_OCTETS, Shown, bound};
@@ -26,16 +27,16 @@ struct Results {
 }
 
 /// What the library gives and leaves, run on a small stack.
-fn by_library(tape: &[u64], mark: u64) -> Results {
+fn by_library(layout: Layout, tape: &[u64], mark: u64) -> Results {
     let tape = tape.to_vec();
     let mut cut_tape = tape.clone();
     let mut cleared_tape = tape.clone();
     let calls = move || Results {
-        nest: native::nest_test(&tape),
-        reads: [mark, mark - 1].map(|at| native::read(&tape, at)),
-        cut: native::cut_back(&mut cut_tape, mark),
+        nest: native::nest_test(layout, &tape),
+        reads: [mark, mark - 1].map(|at| native::read(layout, &tape, at)),
+        cut: native::cut_back(layout, &mut cut_tape, mark),
         cut_tape,
-        clear: native::clear(&mut cleared_tape),
+        clear: native::clear(layout, &mut cleared_tape),
         cleared_tape,
     };
     on_small_stack(calls)
@@ -49,12 +50,12 @@ fn on_small_stack<Given: Send + 'static>(calls: impl FnOnce() -> Given + Send + 
 }
 
 /// What the model gives and leaves.
-fn by_model(tape: &[u64], mark: u64) -> Results {
-    let cut = model::cut_back(tape, mark);
-    let clear = model::clear(tape);
+fn by_model(layout: Layout, tape: &[u64], mark: u64) -> Results {
+    let cut = model::cut_back(layout, tape, mark);
+    let clear = model::clear(layout, tape);
     Results {
-        nest: model::nest_test(tape),
-        reads: [mark, mark - 1].map(|at| model::read(tape, at)),
+        nest: model::nest_test(layout, tape),
+        reads: [mark, mark - 1].map(|at| model::read(layout, tape, at)),
         cut: cut.outcome,
         cut_tape: cut.tape,
         clear: clear.outcome,
@@ -62,27 +63,30 @@ fn by_model(tape: &[u64], mark: u64) -> Results {
     }
 }
 
-/// Asserts what the calls on a tape of these records give: alike in both, and
-/// this from the nest test and from cuts to the middle and to the end.
+/// Asserts what the calls on tapes of these records give: alike in library and model, and this
+/// from the nest test and from cuts to the middle and to the end.
 fn assert_great(records: &[Record], nest: bool, answers: [u64; 2]) {
-    let tape = tapes::full(records);
-    for (mark, answer) in [tape[0] / 2, tape[0]].into_iter().zip(answers) {
-        let given = by_library(&tape, mark);
-        assert_eq!(
-            (given.nest, given.cut.answer),
-            (nest, answer),
-            "mark {mark}"
-        );
-        assert!(given == by_model(&tape, mark), "mark {mark}");
+    let count = records.len() as u64;
+    for layout in Layout::ALL {
+        let tape = tapes::full(layout, records);
+        for (mark, answer) in [count / 2, count].into_iter().zip(answers) {
+            let given = by_library(layout, &tape, mark);
+            let name = format!("{layout}, mark {mark}");
+            assert_eq!((given.nest, given.cut.answer), (nest, answer), "{name}");
+            assert!(given == by_model(layout, &tape, mark), "{name}");
+        }
     }
 }
 
+/// A walk or a push.
+type Append = fn(Layout, Area<'_>, &mut [u64]) -> Outcome;
+
 /// What a walk or a push gives and leaves, run on a small stack.
-fn append(call: fn(Area<'_>, &mut [u64]) -> Outcome, area: Area<'_>, tape: &[u64]) -> After {
+fn append(call: Append, layout: Layout, area: Area<'_>, tape: &[u64]) -> After {
     let Area { registry, base, .. } = area;
     let (octets, mut tape) = (area.octets.to_vec(), tape.to_vec());
     on_small_stack(move || {
-        let outcome = call(Area::new(registry, base, &octets), &mut tape);
+        let outcome = call(layout, Area::new(registry, base, &octets), &mut tape);
         After { outcome, tape }
     })
 }
@@ -94,12 +98,15 @@ fn assert_great_area(registry: u8, octets: &[u8], least: usize) {
     let area = Area::new(registry.into(), 100, &octets);
     let shown = Shown::of(area);
     assert!(shown.needed_by_walk() >= least, "in registry {registry}");
-    let mut tape = tapes::full(&tapes::leaves(1));
-    tape.resize(tape.len() + 6 * bound(MOST_OCTETS), 9);
-    let walk = append(native::walk, area, &tape);
-    assert!(walk == shown.walk(&tape), "walk in registry {registry}");
-    let push = append(native::push, area, &tape);
-    assert!(push == shown.push(&tape), "push in registry {registry}");
+    for layout in Layout::ALL {
+        let mut tape = tapes::full(layout, &tapes::leaves(1));
+        tape.resize(tape.len() + layout.record_words() * bound(MOST_OCTETS), 9);
+        let name = format!("{layout}, registry {registry}");
+        let walk = append(native::walk, layout, area, &tape);
+        assert!(walk == shown.walk(layout, &tape), "walk: {name}");
+        let push = append(native::push, layout, area, &tape);
+        assert!(push == shown.push(layout, &tape), "push: {name}");
+    }
 }
 
 /// Arrays in each other, as many as asked for, the innermost empty.

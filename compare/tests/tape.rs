@@ -1,6 +1,7 @@
 //! Every call on tapes of every kind: the proved library against the model.
 
 use compare::agree::{Call, Tally};
+use compare::layout::Layout;
 use compare::model::{self, bare};
 use compare::native;
 use compare::random::Random;
@@ -30,14 +31,21 @@ const GREAT: [u64; 8] = [
     u64::MAX,
 ];
 
-/// Words 1 to 3 of headers that are wrong.
-fn wrong_headers() -> Vec<[u64; 3]> {
-    let mut headers = vec![[4, 0, 6], [6, 4, 0], [6, 0, 4], [0, 4, 6], [0, 6, 4]];
-    headers.extend([[0; 3], [4; 3], [6; 3], [u64::MAX; 3]]);
+/// Every choice of words 1 to 3 of a header out of 0, 4 and 6.
+fn mixed_headers() -> impl Iterator<Item = [u64; 3]> {
+    let word = |choice: usize| [0, 4, 6][choice % 3];
+    (0..27).map(move |choice| [choice, choice / 3, choice / 9].map(word))
+}
+
+/// Words 1 to 3 of headers that are wrong, the other layout's among them.
+fn wrong_headers(layout: Layout) -> Vec<[u64; 3]> {
+    let [_, right @ ..] = layout.header(0);
+    let mixed = mixed_headers().filter(|header| *header != right);
+    let mut headers: Vec<_> = mixed.chain([[u64::MAX; 3]]).collect();
     let high = [1 << 8, 1 << 16, 1 << 31, 1 << 32, 1 << 33, 1 << 62, 1 << 63];
     for place in 0..3 {
         for off in high.into_iter().chain([1, 2, u64::MAX]) {
-            let mut header = [4, 6, 0_u64];
+            let mut header = right;
             header[place] = header[place].wrapping_add(off);
             headers.push(header);
         }
@@ -56,135 +64,171 @@ fn counts(room: u64) -> Vec<u64> {
 
 /// Asserts what the calls make of the first words of a tape, lent where they
 /// stand, and that the others stay.
-fn assert_part(tape: &[u64], length: usize) {
+fn assert_part(layout: Layout, tape: &[u64], length: usize) {
     let part = &tape[..length];
-    assert_eq!(native::nest_test(part), model::nest_test(part), "{part:?}");
+    let (given, expected) = (
+        native::nest_test(layout, part),
+        model::nest_test(layout, part),
+    );
+    assert_eq!(given, expected, "{layout} {part:?}");
     let mut left = tape.to_vec();
-    let (given, expected) = (native::clear(&mut left[..length]), model::clear(part));
-    assert_eq!(given, expected.outcome, "{part:?}");
-    assert_eq!(left, [&expected.tape, &tape[length..]].concat(), "{part:?}");
-    for argument in 0..=MOST_ROOM {
-        let call = format!("{argument} of {part:?}");
-        let (given, expected) = (native::read(part, argument), model::read(part, argument));
-        assert_eq!(given, expected, "{call}");
-        let mut left = tape.to_vec();
-        let given = native::cut_back(&mut left[..length], argument);
-        let expected = model::cut_back(part, argument);
-        assert_eq!(given, expected.outcome, "{call}");
-        assert_eq!(left, [&expected.tape, &tape[length..]].concat(), "{call}");
-    }
+    let given = native::clear(layout, &mut left[..length]);
+    let expected = model::clear(layout, part);
+    assert_eq!(given, expected.outcome, "{layout} {part:?}");
+    let wanted = [&expected.tape, &tape[length..]].concat();
+    assert_eq!(left, wanted, "{layout} {part:?}");
+    (0..=MOST_ROOM).for_each(|argument| assert_part_with(layout, tape, length, argument));
+}
+
+/// Asserts what read and cut back make of the first words of a tape, with this argument.
+fn assert_part_with(layout: Layout, tape: &[u64], length: usize, argument: u64) {
+    let part = &tape[..length];
+    let call = format!("{layout} {argument} of {part:?}");
+    let given = native::read(layout, part, argument);
+    assert_eq!(given, model::read(layout, part, argument), "{call}");
+    let mut left = tape.to_vec();
+    let given = native::cut_back(layout, &mut left[..length], argument);
+    let expected = model::cut_back(layout, part, argument);
+    assert_eq!(given, expected.outcome, "{call}");
+    assert_eq!(left, [&expected.tape, &tape[length..]].concat(), "{call}");
+}
+
+/// Compares every call on a tape, with arguments of every size.
+fn compare_tape(tally: &mut Tally, random: &mut Random, tape: &[u64]) {
+    let arguments = tapes::arguments(random, tally.layout(), tape);
+    tally.every_call(tape, &arguments);
 }
 
 #[test]
 fn every_call_on_noise_is_that_of_the_model() {
-    let mut random = Random::of_this_run();
-    let mut tally = Tally::default();
-    for length in 0..=MOST_WORDS {
-        for _ in 0..NOISE_TAPES {
-            let tape = tapes::noise(&mut random, length);
-            let arguments = tapes::arguments(&mut random, &tape);
-            tally.every_call(&tape, &arguments);
+    for mut tally in Tally::in_each_layout() {
+        let mut random = Random::of_this_run();
+        for length in 0..=MOST_WORDS {
+            for _ in 0..NOISE_TAPES {
+                let tape = tapes::noise(&mut random, tally.layout(), length);
+                compare_tape(&mut tally, &mut random, &tape);
+            }
         }
+        tally.assert_calls(750_000);
+        tally.assert_answers(Call::Clear, &[0, 4], 1_000);
+        tally.assert_answers(Call::CutBack, &[0, 4, 6, 7], 10_000);
+        tally.assert_answers(Call::Read, &[0, 4, 6, 8], 10_000);
+        tally.assert_answers(Call::NestTest, &[0, 1], 1_000);
     }
-    tally.assert_calls(750_000);
-    tally.assert_answers(Call::Clear, &[0, 4], 1_000);
-    tally.assert_answers(Call::CutBack, &[0, 4, 6, 7], 10_000);
-    tally.assert_answers(Call::Read, &[0, 4, 6, 8], 10_000);
-    tally.assert_answers(Call::NestTest, &[0, 1], 1_000);
 }
 
 #[test]
 fn a_wrong_header_is_refused_by_all_but_clear() {
-    let mut random = Random::of_this_run();
-    let mut tally = Tally::default();
-    for room in 0..=MOST_ROOM {
-        for header in wrong_headers() {
-            let mut tape = tapes::full(&tapes::leaves(room));
-            tape[1..4].copy_from_slice(&header);
-            let arguments = tapes::arguments(&mut random, &tape);
-            tally.every_call(&tape, &arguments);
+    for mut tally in Tally::in_each_layout() {
+        let layout = tally.layout();
+        let mut random = Random::of_this_run();
+        for room in 0..=MOST_ROOM {
+            for header in wrong_headers(layout) {
+                let mut tape = tapes::full(layout, &tapes::leaves(room));
+                tape[1..4].copy_from_slice(&header);
+                compare_tape(&mut tally, &mut random, &tape);
+            }
         }
+        tally.assert_calls(16_000);
+        tally.assert_answers(Call::Clear, &[0], 399);
+        tally.assert_answers(Call::CutBack, &[4], 399 * 20);
+        tally.assert_answers(Call::Read, &[4], 399 * 20);
+        tally.assert_answers(Call::NestTest, &[0], 399);
     }
-    tally.assert_calls(10_000);
-    tally.assert_answers(Call::Clear, &[0], 273);
-    tally.assert_answers(Call::CutBack, &[4], 273 * 20);
-    tally.assert_answers(Call::Read, &[4], 273 * 20);
-    tally.assert_answers(Call::NestTest, &[0], 273);
 }
 
 #[test]
 fn the_count_is_held_to_the_room() {
-    let mut random = Random::of_this_run();
-    let mut tally = Tally::default();
-    for room in 0..=MOST_ROOM {
-        for (count, unused) in counts(room).into_iter().zip((0..6).cycle()) {
-            let mut tape = tapes::tape(&mut random, &tapes::leaves(room), unused);
-            tape[0] = count;
-            let arguments = tapes::arguments(&mut random, &tape);
-            tally.every_call(&tape, &arguments);
+    for mut tally in Tally::in_each_layout() {
+        let layout = tally.layout();
+        let mut random = Random::of_this_run();
+        for room in 0..=MOST_ROOM {
+            let unused = (0..layout.record_words()).cycle();
+            for (count, unused) in counts(room).into_iter().zip(unused) {
+                let mut tape = tapes::tape(&mut random, layout, &tapes::leaves(room), unused);
+                tape[0] = count;
+                compare_tape(&mut tally, &mut random, &tape);
+            }
         }
+        tally.assert_calls(8_000);
+        tally.assert_answers(Call::CutBack, &[0, 4, 6], 50);
+        tally.assert_answers(Call::Read, &[0, 4, 6], 30);
+        tally.assert_answers(Call::NestTest, &[0, 1], 13);
     }
-    tally.assert_calls(8_000);
-    tally.assert_answers(Call::CutBack, &[0, 4, 6], 50);
-    tally.assert_answers(Call::Read, &[0, 4, 6], 30);
-    tally.assert_answers(Call::NestTest, &[0, 1], 13);
 }
 
 #[test]
 fn part_of_a_header_is_refused() {
-    let mut tally = Tally::default();
-    for length in 0..4 {
-        for header in [[0, 4, 6], [4, 6, 0], [0; 3], [u64::MAX; 3]] {
-            let tape = &header[..length];
-            tally.every_call(tape, &[0, 1, 4, u64::MAX]);
+    for mut tally in Tally::in_each_layout() {
+        let [used, first, size, zero] = tally.layout().header(0);
+        for length in 0..4 {
+            for header in [
+                [used, first, size],
+                [first, size, zero],
+                [0; 3],
+                [u64::MAX; 3],
+            ] {
+                tally.every_call(&header[..length], &[0, 1, 4, u64::MAX]);
+            }
+        }
+        tally.assert_calls(160);
+        tally.assert_answers(Call::Clear, &[4], 16);
+        tally.assert_answers(Call::CutBack, &[4], 64);
+        tally.assert_answers(Call::Read, &[4], 64);
+        tally.assert_answers(Call::NestTest, &[0], 16);
+    }
+}
+
+/// Compares every call on copies of a tape with a great word in one place.
+fn compare_great_words(tally: &mut Tally, random: &mut Random, tape: &[u64]) {
+    for place in 0..tape.len() {
+        for great in GREAT {
+            let mut damaged = tape.to_vec();
+            damaged[place] = great.wrapping_sub(random.below(3));
+            compare_tape(tally, random, &damaged);
         }
     }
-    tally.assert_calls(160);
-    tally.assert_answers(Call::Clear, &[4], 16);
-    tally.assert_answers(Call::CutBack, &[4], 64);
-    tally.assert_answers(Call::Read, &[4], 64);
-    tally.assert_answers(Call::NestTest, &[0], 16);
 }
 
 #[test]
 fn a_great_word_in_any_place_is_met_as_by_the_model() {
-    let mut random = Random::of_this_run();
-    let mut tally = Tally::default();
-    for round in 0..FORESTS {
-        let forest = tapes::forest(&mut random, 9, round % 7);
-        let tape = tapes::tape(&mut random, &forest, 2);
-        for place in 0..tape.len() {
-            for great in GREAT {
-                let mut damaged = tape.clone();
-                damaged[place] = great.wrapping_sub(random.below(3));
-                let arguments = tapes::arguments(&mut random, &damaged);
-                tally.every_call(&damaged, &arguments);
-            }
+    for mut tally in Tally::in_each_layout() {
+        let layout = tally.layout();
+        let mut random = Random::of_this_run();
+        for round in 0..FORESTS {
+            let forest = tapes::forest(&mut random, layout, 9, round % 7);
+            let tape = tapes::tape(&mut random, layout, &forest, 2);
+            compare_great_words(&mut tally, &mut random, &tape);
         }
+        tally.assert_calls(600_000);
+        tally.assert_answers(Call::CutBack, &[0, 4, 6, 7], 10_000);
+        tally.assert_answers(Call::Read, &[0, 4, 6, 8], 10_000);
+        tally.assert_answers(Call::NestTest, &[0, 1], 1_000);
     }
-    tally.assert_calls(600_000);
-    tally.assert_answers(Call::CutBack, &[0, 4, 6, 7], 10_000);
-    tally.assert_answers(Call::Read, &[0, 4, 6, 8], 10_000);
-    tally.assert_answers(Call::NestTest, &[0, 1], 1_000);
 }
 
 #[test]
 fn what_lies_past_the_lent_words_does_not_matter() {
-    let mut tape = tapes::full(&tapes::leaves(MOST_ROOM));
-    for length in 0..=tape.len() {
-        for used in 0..=MOST_ROOM {
-            tape[0] = used;
-            assert_part(&tape, length);
+    for layout in Layout::ALL {
+        let mut tape = tapes::full(layout, &tapes::leaves(MOST_ROOM));
+        for length in 0..=tape.len() {
+            for used in 0..=MOST_ROOM {
+                tape[0] = used;
+                assert_part(layout, &tape, length);
+            }
         }
     }
 }
 
 #[test]
 fn a_null_pointer_of_length_0_is_no_tape() {
-    assert_eq!(native::clear_nothing(), bare(4));
-    assert!(!native::nest_test_nothing());
-    for argument in [0, 1].into_iter().chain(GREAT) {
-        assert_eq!(native::cut_back_nothing(argument), bare(4));
-        assert_eq!(native::read_nothing(argument), ([0; 6], bare(4)));
+    for layout in Layout::ALL {
+        assert_eq!(native::clear_nothing(layout), bare(4));
+        assert!(!native::nest_test_nothing(layout));
+        for argument in [0, 1].into_iter().chain(GREAT) {
+            assert_eq!(native::cut_back_nothing(layout, argument), bare(4));
+            let given = native::read_nothing(layout, argument);
+            assert_eq!(given, ([0; 6], bare(4)));
+        }
     }
 }

@@ -32,53 +32,57 @@ fn compare_row(comparison: &mut Comparison, row: Row) {
 
 #[test]
 fn values_around_every_least_length_are_those_of_the_rust() {
-    let mut comparison = Comparison::of_this_run();
-    for row in rows() {
-        compare_row(&mut comparison, *row);
+    for mut comparison in Comparison::in_each_layout() {
+        for row in rows() {
+            compare_row(&mut comparison, *row);
+        }
+        let tally = comparison.tally;
+        tally.assert_calls(850_000);
+        tally.assert_answers(Call::Push, &[0, 5], 180_000);
+        tally.assert_answers(Call::Walk, &[0, 5], 180_000);
     }
-    comparison.tally.assert_calls(850_000);
-    comparison
-        .tally
-        .assert_answers(Call::Push, &[0, 5], 180_000);
-    comparison
-        .tally
-        .assert_answers(Call::Walk, &[0, 5], 180_000);
+}
+
+/// Compares values that have the form of their row.
+fn compare_formed(comparison: &mut Comparison, row: Row) {
+    for _ in 0..FORMED_VALUES {
+        let value = areas::value(&mut comparison.random, row);
+        compare_value(comparison, row, &value);
+    }
 }
 
 #[test]
 fn values_of_the_form_of_their_row_are_those_of_the_rust() {
-    let mut comparison = Comparison::of_this_run();
-    for row in rows() {
-        for _ in 0..FORMED_VALUES {
-            let value = areas::value(&mut comparison.random, *row);
-            compare_value(&mut comparison, *row, &value);
+    for mut comparison in Comparison::in_each_layout() {
+        for row in rows() {
+            compare_formed(&mut comparison, *row);
         }
+        let tally = comparison.tally;
+        tally.assert_calls(1_300_000);
+        tally.assert_answers(Call::Push, &[0, 5], 280_000);
+        tally.assert_answers(Call::Walk, &[0, 5], 280_000);
     }
-    comparison.tally.assert_calls(1_300_000);
-    comparison
-        .tally
-        .assert_answers(Call::Push, &[0, 5], 280_000);
-    comparison
-        .tally
-        .assert_answers(Call::Walk, &[0, 5], 280_000);
+}
+
+/// Compares values of every length for one type.
+fn compare_every_length(comparison: &mut Comparison, registry: u8, t: u8) {
+    for length in 0..=u8::MAX {
+        let value = octets(&mut comparison.random, length.into());
+        comparison.exact_room(registry, &entry(t, &value));
+    }
 }
 
 #[test]
 fn values_of_every_type_and_length_are_those_of_the_rust() {
-    let mut comparison = Comparison::of_this_run();
-    for registry in 0..=oracle::LAST_REGISTRY {
-        for t in 0..=u8::MAX {
-            for length in 0..=u8::MAX {
-                let value = octets(&mut comparison.random, length.into());
-                comparison.exact_room(registry, &entry(t, &value));
+    for mut comparison in Comparison::in_each_layout() {
+        for registry in 0..=oracle::LAST_REGISTRY {
+            for t in 0..=u8::MAX {
+                compare_every_length(&mut comparison, registry, t);
             }
         }
+        let tally = comparison.tally;
+        tally.assert_calls(2 * 6 * 256 * 256);
+        tally.assert_answers(Call::Push, &[0], 6 * 256 * 256);
+        tally.assert_answers(Call::Walk, &[0], 6 * 256 * 256);
     }
-    comparison.tally.assert_calls(2 * 6 * 256 * 256);
-    comparison
-        .tally
-        .assert_answers(Call::Push, &[0], 6 * 256 * 256);
-    comparison
-        .tally
-        .assert_answers(Call::Walk, &[0], 6 * 256 * 256);
 }

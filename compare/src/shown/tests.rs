@@ -1,4 +1,4 @@
-//! Cases of document 01, worked out by hand.
+//! Cases of documents 01 and 02, worked out by hand.
 
 use super::*;
 use crate::tapes::{full, leaves};
@@ -23,43 +23,56 @@ fn area(base: u64, octets: &[u8]) -> Area<'_> {
 }
 
 /// A tape of leaves with this many words of 9 after them.
-fn tape(count: u64, unused: usize) -> Vec<u64> {
-    [full(&leaves(count)), vec![9; unused]].concat()
+fn tape(layout: Layout, count: u64, unused: usize) -> Vec<u64> {
+    [full(layout, &leaves(count)), vec![9; unused]].concat()
+}
+
+/// Asserts that both calls give this and leave the tape as it was.
+fn assert_unchanged(shown: &Shown<'_>, layout: Layout, tape: &[u64], given: Outcome) {
+    assert_eq!(shown.walk(layout, tape), unchanged(tape, given));
+    assert_eq!(shown.push(layout, tape), unchanged(tape, given));
 }
 
 /// Asserts that both calls refuse an area with this answer, on any tape.
 fn assert_refused(area: Area<'_>, answer: u64) {
     let shown = Shown::of(area);
-    for tape in [vec![], vec![9; 7], tape(0, 0), tape(2, 60)] {
-        assert_eq!(shown.walk(&tape), unchanged(&tape, bare(answer)));
-        assert_eq!(shown.push(&tape), unchanged(&tape, bare(answer)));
+    for layout in Layout::ALL {
+        let tapes = [tape(layout, 0, 0), tape(layout, 2, 60)];
+        for tape in [vec![], vec![9; 7]].into_iter().chain(tapes) {
+            assert_unchanged(&shown, layout, &tape, bare(answer));
+        }
     }
 }
 
 #[test]
 fn the_listing_comes_behind_the_earlier_records() {
     let shown = Shown::of(area(100, &METRIC));
-    for count in [0, 1, 7] {
-        let records = [leaves(count), listing(count)].concat();
-        let expected = After {
-            outcome: outcome(0, 5, 5, 5),
-            tape: [full(&records), vec![9; 3]].concat(),
-        };
-        assert_eq!(shown.push(&tape(count, 33)), expected);
-        assert_eq!(shown.walk(&tape(count, 33)), expected);
+    for layout in Layout::ALL {
+        let size = layout.record_words();
+        for count in [0, 1, 7] {
+            let records = [leaves(count), listing(count)].concat();
+            let expected = After {
+                outcome: outcome(0, 5, 5, 5),
+                tape: [full(layout, &records), vec![9; 3]].concat(),
+            };
+            let tape = tape(layout, count, 5 * size + 3);
+            assert_eq!(shown.push(layout, &tape), expected);
+            assert_eq!(shown.walk(layout, &tape), expected);
+        }
     }
 }
 
 #[test]
 fn a_record_too_few_is_answer_5() {
     let shown = Shown::of(area(100, &METRIC));
-    for unused in [0, 24, 29] {
-        let tape = tape(2, unused);
-        let expected = unchanged(&tape, outcome(5, 0, 0, 5));
-        assert_eq!(shown.push(&tape), expected);
-        assert_eq!(shown.walk(&tape), expected);
+    for (layout, words) in [(Layout::Usual, [0, 24, 29]), (Layout::Slim, [0, 16, 19])] {
+        for unused in words {
+            let tape = tape(layout, 2, unused);
+            assert_unchanged(&shown, layout, &tape, outcome(5, 0, 0, 5));
+        }
+        let tape = tape(layout, 2, words[2] + 1);
+        assert_eq!(shown.push(layout, &tape).outcome, outcome(0, 5, 5, 5));
     }
-    assert_eq!(shown.push(&tape(2, 30)).outcome, outcome(0, 5, 5, 5));
 }
 
 #[test]
@@ -67,37 +80,52 @@ fn a_walk_leaves_the_remainder_out() {
     let octets = [&METRIC[..], &[0x12]].concat();
     let shown = Shown::of(area(100, &octets));
     assert_eq!((shown.needed_by_walk(), shown.needed_by_push()), (5, 6));
-    assert_eq!(shown.walk(&tape(0, 36)).outcome, outcome(0, 5, 5, 5));
-    assert_eq!(shown.push(&tape(0, 36)).outcome, outcome(0, 5, 6, 6));
-    assert_eq!(shown.walk(&tape(0, 36)).tape[34..], [9; 6]);
-    assert_eq!(
-        shown.push(&tape(0, 36)).tape[34..],
-        [3 + 6 * 256, 105, 106, 0, 0, 0]
-    );
+    for (layout, raw) in [
+        (Layout::Usual, &[3 + 6 * 256, 105, 106, 0, 0, 0][..]),
+        (Layout::Slim, &[3 + 6 * 256, 455_266_533_481, 0, 0]),
+    ] {
+        let tape = tape(layout, 0, 6 * raw.len());
+        let (walk, push) = (shown.walk(layout, &tape), shown.push(layout, &tape));
+        assert_eq!(walk.outcome, outcome(0, 5, 5, 5));
+        assert_eq!(push.outcome, outcome(0, 5, 6, 6));
+        assert_eq!(walk.tape[4 + 5 * raw.len()..], vec![9; raw.len()]);
+        assert_eq!(push.tape[4 + 5 * raw.len()..], *raw);
+    }
 }
 
 #[test]
 fn an_empty_area_needs_no_room() {
     let shown = Shown::of(area(LAST_PLACE, &[]));
-    for tape in [tape(0, 0), tape(3, 1)] {
-        let expected = unchanged(&tape, bare(0));
-        assert_eq!(shown.walk(&tape), expected);
-        assert_eq!(shown.push(&tape), expected);
+    for layout in Layout::ALL {
+        for tape in [tape(layout, 0, 0), tape(layout, 3, 1)] {
+            assert_unchanged(&shown, layout, &tape, bare(0));
+        }
     }
 }
 
 #[test]
 fn a_wrong_header_is_answer_4() {
     let shown = Shown::of(area(100, &METRIC));
-    let mut wrong: Vec<_> = (0..4).map(|count| vec![0; count]).collect();
-    for (place, word) in [(0, 6), (0, u64::MAX), (1, 6), (2, 4), (3, 1)] {
-        let mut tape = tape(5, 5);
-        tape[place] = word;
-        wrong.push(tape);
+    for layout in Layout::ALL {
+        let other = layout.other().record_words() as u64;
+        let mut wrong: Vec<_> = (0..4).map(|count| vec![0; count]).collect();
+        for (place, word) in [(0, 6), (0, u64::MAX), (1, 6), (2, other), (3, 1)] {
+            let mut tape = tape(layout, 5, 3);
+            tape[place] = word;
+            wrong.push(tape);
+        }
+        for tape in wrong {
+            assert_unchanged(&shown, layout, &tape, bare(4));
+        }
     }
-    for tape in wrong {
-        assert_eq!(shown.walk(&tape), unchanged(&tape, bare(4)));
-        assert_eq!(shown.push(&tape), unchanged(&tape, bare(4)));
+}
+
+#[test]
+fn records_behind_others_have_later_positions() {
+    let shown = Shown::of(area(100, &METRIC));
+    for earlier in [0, 1, 4_294_967_290] {
+        let records: Vec<Record> = shown.records_behind(earlier).collect();
+        assert_eq!(records, listing(earlier));
     }
 }
 

@@ -16,7 +16,7 @@ use Rattle.meaning.specs.AreaCall.{areaCall}
 use Rattle.theorems.specs.Form.{Differ, SameFrame}
 use Rattle.theorems.specs.Entries.{Ending, called, beside, before, own, after, afterAt, endAt, EntryByEntry}
 
--- two runs of the same call, with the same registry and base: given the areas a and a′ and the tapes t and t′, they gave o and o′ and left x and x′
+-- two runs of the same call, each in a layout of its own, with the same registry and base: given the areas a and a′ and the tapes t and t′, they gave o and o′ and left x and x′
 module _ (slim slim′ : Bool) (e : Ending) (plan : Plan) (registry base : ℕ) (a a′ t t′ : List ℕ) (o o′ : Outcome) (x x′ : List ℕ) (ps : List (List ℕ)) (q : List ℕ) (us : List (List ℕ)) where
   -- what demand 3 asks of them
   pub record Two : Type 0 where

@@ -1,4 +1,4 @@
--- Demand 3 holds of the calls walk and push, by one proof over both, and by any reading.
+-- Demand 3 holds of the calls walk and push in either layout, by one proof over all, and by any reading that is nearby.
 use mathlib.Core.Bool.{Bool}
 use mathlib.Core.Path.{_≡_, refl, sym, ap, _∙_, subst}
 use mathlib.Core.List.{List, [], _∷_, map}
