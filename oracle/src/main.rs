@@ -115,7 +115,7 @@ fn say_right(count: usize) -> io::Result<()> {
     let mut out = io::stdout();
     writeln!(
         out,
-        "{count} inputs, each printed as the Rust and document 01 say"
+        "{count} inputs, each printed as the Rust and documents 01 and 02 say"
     )
 }
 

@@ -134,7 +134,7 @@ fn assert_judged_wrong(script: &str, message: &str) {
 #[test]
 fn judge_accepts_a_right_program_which_need_not_read_all() {
     let count = oracle::dump_inputs().len();
-    let text = format!("{count} inputs, each printed as the Rust and document 01 say\n");
+    let text = format!("{count} inputs, each printed as the Rust and documents 01 and 02 say\n");
     let program = env!("CARGO_BIN_EXE_oracle");
     assert_prints(&["judge", program, "dump"], &[], &text);
     let reads_774_octets = judge_script("head -c 774 | \"$0\" dump");
