@@ -26,13 +26,13 @@ made (walk registry area base) slim t = walkCall slim registry area base t
 made (push registry area base) slim t = pushCall slim registry area base t
 made (cutBack mark) slim t = cutBackCall slim t mark
 
--- a call is not refused under 4; it has room, where it is not refused under 5
-abbrev pub Not : ℕ → After → Type 0
-Not answer after = ¬ (after .outcome .answer ≡ answer)
+-- a call is not refused under this number; where it is not under 5, it has room
+abbrev pub NotUnder : ℕ → After → Type 0
+NotUnder answer after = ¬ (after .outcome .answer ≡ answer)
 
 -- what the two runs of a call have in common that neither tape is refused under 4: as many records are needed, whether there is
 -- room or not; and where both have room, the outcome, a refusal too, and the records that are then on the tapes
 pub record Agreed (slim slim′ : Bool) (one other : After) : Type 0 where
   pub needed : one .outcome .needed ≡ other .outcome .needed
-  pub outcome : Not 5 one → Not 5 other → one .outcome ≡ other .outcome
-  pub records : Not 5 one → Not 5 other → Same slim slim′ (one .lent) (other .lent)
+  pub outcome : NotUnder 5 one → NotUnder 5 other → one .outcome ≡ other .outcome
+  pub records : NotUnder 5 one → NotUnder 5 other → Same slim slim′ (one .lent) (other .lent)

@@ -36,7 +36,7 @@ use Rattle.meaning.specs.AreaCallLaws.{number-low, appended-load, appended-used
 use Rattle.theorems.specs.Nearby.{Nearby}
 use Rattle.theorems.specs.NearbyLaws.{usual-nearby}
 use Rattle.theorems.specs.Entries.{leave, show}
-use Rattle.theorems.specs.Layouts.{Same, Writing, clear, walk, push, cutBack, made, Not, Agreed}
+use Rattle.theorems.specs.Layouts.{Same, Writing, clear, walk, push, cutBack, made, NotUnder, Agreed}
 
 -- the used records of a tape that trees were appended to
 appended-records : (slim : Bool) (t : List ℕ) (trees : Forest) → InOrder slim t → size trees ≤ room slim t - used t → Near trees
@@ -117,7 +117,7 @@ module _ (slim slim′ : Bool) (t u : List ℕ) (same : Same slim slim′ t u) w
       go false true less fits′ = record { needed = refl; outcome = λ has has′. absurd (has refl); records = λ has has′. absurd (has refl) }
       go false false less less′ = agreed-refused (noRoom (size trees))
 
-  agreed-in : (shows : Walk) → Nearby shows → (found : Found) (area : List ℕ) (base : ℕ) → Not 4 (callIn slim shows found area base t) → Not 4 (callIn slim′ shows found area base u)
+  agreed-in : (shows : Walk) → Nearby shows → (found : Found) (area : List ℕ) (base : ℕ) → NotUnder 4 (callIn slim shows found area base t) → NotUnder 4 (callIn slim′ shows found area base u)
       → Agreed slim slim′ (callIn slim shows found area base t) (callIn slim′ shows found area base u)
   unfolding callIn
   agreed-in shows nearby Unknown area base tape tape′ = agreed-refused (refused 1)
@@ -134,14 +134,14 @@ module _ (slim slim′ : Bool) (t u : List ℕ) (same : Same slim slim′ t u) w
       other a b c = cond a (cond b (cond c (fitted slim′ (covered area) trees u) (refusal 4 u)) (refusal 3 u)) (refusal 2 u)
 
       go : (a b : Bool) → leb (base + length area) furthest ≡ b → (c : Bool) → headed slim t ≡ c → (d : Bool) → headed slim′ u ≡ d
-          → Not 4 (one a b c) → Not 4 (other a b d) → Agreed slim slim′ (one a b c) (other a b d)
+          → NotUnder 4 (one a b c) → NotUnder 4 (other a b d) → Agreed slim slim′ (one a b c) (other a b d)
       go false b near c is d is′ four four′ = agreed-refused (refused 2)
       go true false near c is d is′ four four′ = agreed-refused (refused 3)
       go true true near false is d is′ four four′ = absurd (four refl)
       go true true near true is false is′ four four′ = absurd (four′ refl)
       go true true near true is true is′ four four′ = agreed-fitted (covered area) trees (nearby (numberOf registry) area base (number-low registry) (leb-true _ _ near)) is is′
 
-  pub agreed-area : (shows : Walk) → Nearby shows → (registry : ℕ) (area : List ℕ) (base : ℕ) → Not 4 (areaCall slim shows registry area base t) → Not 4 (areaCall slim′ shows registry area base u)
+  pub agreed-area : (shows : Walk) → Nearby shows → (registry : ℕ) (area : List ℕ) (base : ℕ) → NotUnder 4 (areaCall slim shows registry area base t) → NotUnder 4 (areaCall slim′ shows registry area base u)
       → Agreed slim slim′ (areaCall slim shows registry area base t) (areaCall slim′ shows registry area base u)
   agreed-area shows nearby registry area base = agreed-in shows nearby (registryOf registry) area base
 
@@ -160,7 +160,7 @@ module _ (slim slim′ : Bool) (t u : List ℕ) (same : Same slim slim′ t u) w
             ∙ sym (ap (load slim′ (withUsed mark u) 0) count′ ∙ load-with-used slim′ u mark 0 mark);
       }
 
-  agreed-cut : (mark : ℕ) → Not 4 (cutBackCall slim t mark) → Not 4 (cutBackCall slim′ u mark) → Agreed slim slim′ (cutBackCall slim t mark) (cutBackCall slim′ u mark)
+  agreed-cut : (mark : ℕ) → NotUnder 4 (cutBackCall slim t mark) → NotUnder 4 (cutBackCall slim′ u mark) → Agreed slim slim′ (cutBackCall slim t mark) (cutBackCall slim′ u mark)
   unfolding cutBackCall
   agreed-cut mark tape tape′ = go (headed slim t) refl (headed slim′ u) refl tape tape′
     where
@@ -183,7 +183,7 @@ module _ (slim slim′ : Bool) (t u : List ℕ) (same : Same slim slim′ t u) w
           rw (← same .count, le-leb mark (used t) inside, ← same-first mark inside) (kept inside header header′ (endBy mark (load slim t 0 mark)))
 
       go : (c : Bool) → headed slim t ≡ c → (d : Bool) → headed slim′ u ≡ d
-          → Not 4 (cond c one (refusal 4 t)) → Not 4 (cond d other (refusal 4 u)) → Agreed slim slim′ (cond c one (refusal 4 t)) (cond d other (refusal 4 u))
+          → NotUnder 4 (cond c one (refusal 4 t)) → NotUnder 4 (cond d other (refusal 4 u)) → Agreed slim slim′ (cond c one (refusal 4 t)) (cond d other (refusal 4 u))
       go false is d is′ four four′ = absurd (four refl)
       go true is false is′ four four′ = absurd (four′ refl)
       go true is true is′ four four′ = held (headed-in-order t is) (headed-in-order u is′) (decLe mark (used t))
@@ -195,7 +195,7 @@ unfolding load
 same-cleared slim slim′ t u =
     record { count = used-cleared slim t ∙ sym (used-cleared slim′ u); records = rw (used-cleared slim t, used-cleared slim′ u) refl }
 
-pub agreed-clear : (slim slim′ : Bool) (t u : List ℕ) → Not 4 (clearCall slim t) → Not 4 (clearCall slim′ u) → Agreed slim slim′ (clearCall slim t) (clearCall slim′ u)
+pub agreed-clear : (slim slim′ : Bool) (t u : List ℕ) → NotUnder 4 (clearCall slim t) → NotUnder 4 (clearCall slim′ u) → Agreed slim slim′ (clearCall slim t) (clearCall slim′ u)
 unfolding clearCall
 agreed-clear slim slim′ t u = go (leb 4 (length t)) (leb 4 (length u))
   where
@@ -205,7 +205,7 @@ agreed-clear slim slim′ t u = go (leb 4 (length t)) (leb 4 (length u))
     other : Bool → After
     other b = cond b (finished (cleared slim′ u)) (refusal 4 u)
 
-    go : (b c : Bool) → Not 4 (one b) → Not 4 (other c) → Agreed slim slim′ (one b) (other c)
+    go : (b c : Bool) → NotUnder 4 (one b) → NotUnder 4 (other c) → Agreed slim slim′ (one b) (other c)
     go false c four four′ = absurd (four refl)
     go true false four four′ = absurd (four′ refl)
     go true true four four′ = record { needed = refl; outcome = λ has has′. refl; records = λ has has′. same-cleared slim slim′ t u }
@@ -215,13 +215,13 @@ agreed-clear slim slim′ t u = go (leb 4 (length t)) (leb 4 (length u))
 -- of two runs of one call, from equal records, neither tape refused under 4
 pub agreed : (call : Writing) (slim slim′ : Bool) (t u : List ℕ) → Same slim slim′ t u → {o o′ : Outcome} {x x′ : List ℕ}
     → Gives (made call slim t) o x → Gives (made call slim′ u) o′ x′
-    → Not 4 (record { outcome = o; lent = x }) → Not 4 (record { outcome = o′; lent = x′ }) → Agreed slim slim′ (record { outcome = o; lent = x }) (record { outcome = o′; lent = x′ })
+    → NotUnder 4 (record { outcome = o; lent = x }) → NotUnder 4 (record { outcome = o′; lent = x′ }) → Agreed slim slim′ (record { outcome = o; lent = x }) (record { outcome = o′; lent = x′ })
 agreed call slim slim′ t u same ran ran′ tape tape′ = rw (gives-after ran, gives-after ran′) (go call (not-4 ran tape) (not-4 ran′ tape′))
   where
-    not-4 : {meant : After} {o : Outcome} {x : List ℕ} → Gives meant o x → Not 4 (record { outcome = o; lent = x }) → Not 4 meant
+    not-4 : {meant : After} {o : Outcome} {x : List ℕ} → Gives meant o x → NotUnder 4 (record { outcome = o; lent = x }) → NotUnder 4 meant
     not-4 ran tape four = tape (ap (λ (o : Outcome). o .answer) (ran .gave) ∙ four)
 
-    go : (call : Writing) → Not 4 (made call slim t) → Not 4 (made call slim′ u) → Agreed slim slim′ (made call slim t) (made call slim′ u)
+    go : (call : Writing) → NotUnder 4 (made call slim t) → NotUnder 4 (made call slim′ u) → Agreed slim slim′ (made call slim t) (made call slim′ u)
     go clear = agreed-clear slim slim′ t u
     go (walk registry area base) = agreed-area slim slim′ t u same (walked usual) (usual-nearby leave) registry area base
     go (push registry area base) = agreed-area slim slim′ t u same (pushed usual) (usual-nearby show) registry area base
