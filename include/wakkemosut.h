@@ -1,10 +1,17 @@
 /*
  * Wakkemosut: a proved reader of IS-IS sub-TLV areas over a tape that the caller lends (docs/01-scope.md).
  *
+ * An area is the run of sub-TLVs inside a TLV. Clear a tape, push areas onto it, look at each call's answer, and go over the
+ * records that were written: bindings/c/example.c does all of this.
+ *
  * What a caller owes: every pointer is good for its length for the whole call (for reads where the parameter is const, for
- * reads and writes elsewhere), is aligned as its type asks, and no two lent parts overlap. A length of 0 takes any pointer,
- * NULL too. `numbers` and `record` are places of four and six words and are written whatever they held. Nothing is kept from
- * one call to the next, and nothing else is asked: every other input is answered.
+ * reads and writes elsewhere), is aligned as its type asks, and no two lent parts overlap. A tape is of uint64_t and aligned as
+ * such: an array of these is, and what malloc gives; a place in an array of octets need not be. A length of 0 takes any pointer,
+ * NULL too. `numbers` and `record` are places of four and six words and are written whatever they held. Nothing else is asked:
+ * every other input is answered.
+ *
+ * Nothing is kept from one call to the next, no pointer either, and nothing is allocated. So calls may run in several threads at
+ * once, as long as none writes what another one uses: no two of them use one tape at a time.
  *
  * Lengths of areas, prefixes and names count octets, those of tapes count words of 64 bits.
  */
@@ -27,35 +34,58 @@ enum wakkemosut_number {
     WAKKEMOSUT_NUMBERS = 4  /* how many numbers there are */
 };
 
-/* Answers. A refusal changes no lent word or octet but `numbers` and `record`; its other numbers are 0, but for NO_ROOM. */
+/* What a line of the lists below becomes: a case of an enum, and the text of a number. */
+#define WAKKEMOSUT_ENUM_CASE(name, number, text) name = number,
+#define WAKKEMOSUT_TEXT_CASE(name, number, text) \
+    case number: \
+        return text;
+
+/*
+ * Answers: name, number, text. A refusal changes no lent word or octet but `numbers` and `record`; its other numbers are 0, but
+ * for NO_ROOM, which gives WAKKEMOSUT_NEEDED. No tape is what has under 4 words, or words 1 to 3 that are not 4, 6, 0 (4, 4, 0
+ * for a slim call), or more records used than there is room for.
+ */
+#define WAKKEMOSUT_ANSWERS(X) \
+    X(WAKKEMOSUT_DONE, 0, "done") \
+    X(WAKKEMOSUT_NO_REGISTRY, 1, "the registry is not 0 to 5") \
+    X(WAKKEMOSUT_AREA_TOO_LONG, 2, "the area has over 65,535 octets") \
+    X(WAKKEMOSUT_BASE_TOO_HIGH, 3, "base + area length is over 4,294,967,295") \
+    X(WAKKEMOSUT_NO_TAPE, 4, "the lent words are no tape") \
+    X(WAKKEMOSUT_NO_ROOM, 5, "no room for the records") /* more are needed than there is free room for */ \
+    X(WAKKEMOSUT_PAST_COUNT, 6, "past the count of records") /* a read at or past it, or a mark past it */ \
+    X(WAKKEMOSUT_CUTS_CONTAINER, 7, "a record before the mark ends after it") \
+    X(WAKKEMOSUT_NO_RECORD, 8, "the words are no record") /* by label, shape or registry, or start after end */ \
+    X(WAKKEMOSUT_NAME_TOO_LONG, 9, "the name is longer than the lent octets") \
+    X(WAKKEMOSUT_DUMP_INPUT_LENGTH, 10, "the dump program's input is too short or too long") /* no function gives it */ \
+    /* An answer more is a line more, above this one. */
+
 enum wakkemosut_answer {
-    WAKKEMOSUT_DONE = 0,
-    WAKKEMOSUT_NO_REGISTRY = 1,      /* the registry is not 0 to 5 */
-    WAKKEMOSUT_AREA_TOO_LONG = 2,    /* the area has over 65,535 octets */
-    WAKKEMOSUT_BASE_TOO_HIGH = 3,    /* base + area length is over 4,294,967,295 */
-    WAKKEMOSUT_NO_TAPE = 4,          /* under 4 words, words 1 to 3 not 4, 6, 0 (4, 4, 0 for a slim call), or more used than
-                                        there is room for */
-    WAKKEMOSUT_NO_ROOM = 5,          /* more records needed than there is free room for; how many: WAKKEMOSUT_NEEDED */
-    WAKKEMOSUT_PAST_COUNT = 6,       /* a read at or past the count of records, or a mark past it */
-    WAKKEMOSUT_CUTS_CONTAINER = 7,   /* a record that the cut would keep ends after the mark */
-    WAKKEMOSUT_NO_RECORD = 8,        /* the words read are no record: label, shape, registry, or start after end */
-    WAKKEMOSUT_NAME_TOO_LONG = 9,    /* the name is longer than the lent octets */
-    WAKKEMOSUT_DUMP_INPUT_LENGTH = 10 /* the dump program's own; no function gives it */
+    WAKKEMOSUT_ANSWERS(WAKKEMOSUT_ENUM_CASE)
+    WAKKEMOSUT_ANSWERS_END /* one past the last answer */
 };
 
-/* Registries. */
+/* What an answer says. A number that is no answer has a text too, so that it can be printed as it comes. */
+static inline const char *wakkemosut_answer_text(uint64_t answer) {
+    switch (answer) {
+        WAKKEMOSUT_ANSWERS(WAKKEMOSUT_TEXT_CASE)
+    default:
+        return "no answer of this library";
+    }
+}
+
+/* Registries: what gives the types of an area their meaning. The TLV that the area stands in says which. */
 enum wakkemosut_registry {
-    WAKKEMOSUT_REGISTRY_NEIGHBOR = 0,
-    WAKKEMOSUT_REGISTRY_PREFIX = 1,
-    WAKKEMOSUT_REGISTRY_ROUTER_CAPABILITY = 2,
-    WAKKEMOSUT_REGISTRY_BINDING = 3,
-    WAKKEMOSUT_REGISTRY_SRV6_SID = 4,
-    WAKKEMOSUT_REGISTRY_UNREGISTERED = 5
+    WAKKEMOSUT_REGISTRY_NEIGHBOR = 0,          /* neighbors: TLVs 22 and 222 */
+    WAKKEMOSUT_REGISTRY_PREFIX = 1,            /* reachable prefixes: TLVs 27, 135, 235, 236 and 237 */
+    WAKKEMOSUT_REGISTRY_ROUTER_CAPABILITY = 2, /* router capabilities: TLV 242 */
+    WAKKEMOSUT_REGISTRY_BINDING = 3,           /* SID/label bindings: TLVs 149 and 150 */
+    WAKKEMOSUT_REGISTRY_SRV6_SID = 4,          /* areas inside SRv6 SIDs, read along with the area around them */
+    WAKKEMOSUT_REGISTRY_UNREGISTERED = 5       /* those inside SRv6 capabilities: no type has a name or a meaning */
 };
 
 /* The limits of an area, and the most octets that a name has. */
 #define WAKKEMOSUT_LONGEST_AREA 65535
-#define WAKKEMOSUT_HIGHEST_OCTET 4294967295
+#define WAKKEMOSUT_HIGHEST_END 4294967295
 #define WAKKEMOSUT_LONGEST_NAME 59
 
 /*
@@ -79,6 +109,13 @@ enum wakkemosut_tape {
 /* The words of a tape with room for so many records: of the usual layout, and of a slim one. */
 #define WAKKEMOSUT_TAPE_WORDS(records) (WAKKEMOSUT_HEADER_WORDS + WAKKEMOSUT_RECORD_WORDS * (size_t)(records))
 #define WAKKEMOSUT_SLIM_TAPE_WORDS(records) (WAKKEMOSUT_HEADER_WORDS + WAKKEMOSUT_SLIM_RECORD_WORDS * (size_t)(records))
+
+/*
+ * The most records that an area of so many octets can need, up to the longest area. With so much free room no walk or push of it
+ * is refused with NO_ROOM, and each is at its fastest. A tape for any area that fits a TLV, at compile time:
+ *     uint64_t tape[WAKKEMOSUT_TAPE_WORDS(WAKKEMOSUT_MOST_RECORDS(255))];
+ */
+#define WAKKEMOSUT_MOST_RECORDS(octets) ((size_t)(octets) == 0 ? 0 : 1 + 7 * (size_t)(octets) / 3)
 
 /* Words of a record: as they lie on a tape of the usual layout, and as a read gives them of either. */
 enum wakkemosut_word {
@@ -120,66 +157,107 @@ enum wakkemosut_shape {
     WAKKEMOSUT_SHAPE_OBJECT = 8
 };
 
-/* Labels: which field a record is. */
+/* Whether a shape is a container's: 1 or 0. */
+#define WAKKEMOSUT_IS_CONTAINER(shape) ((shape) == WAKKEMOSUT_SHAPE_ARRAY || (shape) == WAKKEMOSUT_SHAPE_OBJECT)
+
+/*
+ * Labels, which say what field a record is: name, number, text, and behind them the unit of the field's number, if it has one.
+ * IEEE 754 says that the number is the bits of a single: put it in a uint32_t, and copy that to a float with memcpy.
+ */
+#define WAKKEMOSUT_LABELS(X) \
+    X(WAKKEMOSUT_LABEL_TYPE, 0, "type") \
+    X(WAKKEMOSUT_LABEL_LENGTH, 1, "length") \
+    X(WAKKEMOSUT_LABEL_VALUE, 2, "value") \
+    X(WAKKEMOSUT_LABEL_RAW, 3, "raw") \
+    X(WAKKEMOSUT_LABEL_SUB_TLVS, 4, "sub_tlvs") \
+    X(WAKKEMOSUT_LABEL_ADMIN_GROUP, 5, "admin_group") \
+    X(WAKKEMOSUT_LABEL_LOCAL_IDENTIFIER, 6, "local_identifier") \
+    X(WAKKEMOSUT_LABEL_REMOTE_IDENTIFIER, 7, "remote_identifier") \
+    X(WAKKEMOSUT_LABEL_IPV4_INTERFACE_ADDRESS, 8, "ipv4_interface_address") \
+    X(WAKKEMOSUT_LABEL_IPV4_NEIGHBOR_ADDRESS, 9, "ipv4_neighbor_address") \
+    X(WAKKEMOSUT_LABEL_IPV6_INTERFACE_ADDRESS, 10, "ipv6_interface_address") \
+    X(WAKKEMOSUT_LABEL_IPV6_NEIGHBOR_ADDRESS, 11, "ipv6_neighbor_address") \
+    X(WAKKEMOSUT_LABEL_MAX_BANDWIDTH, 12, "max_bandwidth") /* bytes a second, IEEE 754: RFC 5305, 3.4 */ \
+    X(WAKKEMOSUT_LABEL_MAX_RESERVABLE_BANDWIDTH, 13, "max_reservable_bandwidth") /* bytes a second, IEEE 754: RFC 5305, 3.5 */ \
+    X(WAKKEMOSUT_LABEL_UNRESERVED_BANDWIDTH, 14, "unreserved_bandwidth") \
+    X(WAKKEMOSUT_LABEL_TE_DEFAULT_METRIC, 15, "te_default_metric") \
+    X(WAKKEMOSUT_LABEL_FLAGS, 16, "flags") \
+    X(WAKKEMOSUT_LABEL_WEIGHT, 17, "weight") \
+    X(WAKKEMOSUT_LABEL_ALGORITHM, 18, "algorithm") \
+    X(WAKKEMOSUT_LABEL_SID, 19, "sid") \
+    X(WAKKEMOSUT_LABEL_NEIGHBOR_SYSTEM_ID, 20, "neighbor_system_id") \
+    X(WAKKEMOSUT_LABEL_ANOMALOUS, 21, "anomalous") \
+    X(WAKKEMOSUT_LABEL_DELAY, 22, "delay") /* microseconds: RFC 8570, 4.1 */ \
+    X(WAKKEMOSUT_LABEL_MIN_DELAY, 23, "min_delay") /* microseconds: RFC 8570, 4.2 */ \
+    X(WAKKEMOSUT_LABEL_MAX_DELAY, 24, "max_delay") /* microseconds: RFC 8570, 4.2 */ \
+    X(WAKKEMOSUT_LABEL_DELAY_VARIATION, 25, "delay_variation") /* microseconds: RFC 8570, 4.3 */ \
+    X(WAKKEMOSUT_LABEL_LINK_LOSS, 26, "link_loss") /* units of 0.000003 %: RFC 8570, 4.4 */ \
+    X(WAKKEMOSUT_LABEL_BANDWIDTH, 27, "bandwidth") /* bytes a second, IEEE 754: RFC 8570, 4.5 to 4.7 */ \
+    X(WAKKEMOSUT_LABEL_ENDPOINT_BEHAVIOR, 28, "endpoint_behavior") \
+    X(WAKKEMOSUT_LABEL_SRV6_SID, 29, "srv6_sid") \
+    X(WAKKEMOSUT_LABEL_LOCATOR_BLOCK_LENGTH, 30, "locator_block_length") /* bits: RFC 9352, 9 */ \
+    X(WAKKEMOSUT_LABEL_LOCATOR_NODE_LENGTH, 31, "locator_node_length") /* bits: RFC 9352, 9 */ \
+    X(WAKKEMOSUT_LABEL_FUNCTION_LENGTH, 32, "function_length") /* bits: RFC 9352, 9 */ \
+    X(WAKKEMOSUT_LABEL_ARGUMENT_LENGTH, 33, "argument_length") /* bits: RFC 9352, 9 */ \
+    X(WAKKEMOSUT_LABEL_TAGS, 34, "tags") \
+    X(WAKKEMOSUT_LABEL_FLAG_X, 35, "flag_x") \
+    X(WAKKEMOSUT_LABEL_FLAG_R, 36, "flag_r") \
+    X(WAKKEMOSUT_LABEL_FLAG_N, 37, "flag_n") \
+    X(WAKKEMOSUT_LABEL_IPV4_SOURCE_ROUTER_ID, 38, "ipv4_source_router_id") \
+    X(WAKKEMOSUT_LABEL_IPV6_SOURCE_ROUTER_ID, 39, "ipv6_source_router_id") \
+    X(WAKKEMOSUT_LABEL_RANGES, 40, "ranges") \
+    X(WAKKEMOSUT_LABEL_ALGORITHMS, 41, "algorithms") \
+    X(WAKKEMOSUT_LABEL_MSDS, 42, "msds") \
+    X(WAKKEMOSUT_LABEL_PREFERENCE, 43, "preference") \
+    X(WAKKEMOSUT_LABEL_SRV6_FLAGS, 44, "srv6_flags") \
+    X(WAKKEMOSUT_LABEL_IPV4_TE_ROUTER_ID, 45, "ipv4_te_router_id") \
+    X(WAKKEMOSUT_LABEL_IPV6_TE_ROUTER_ID, 46, "ipv6_te_router_id") \
+    X(WAKKEMOSUT_LABEL_SUB_TLV, 47, "sub_tlv") \
+    X(WAKKEMOSUT_LABEL_RANGE, 48, "range") \
+    X(WAKKEMOSUT_LABEL_RANGE_SIZE, 49, "range_size") \
+    X(WAKKEMOSUT_LABEL_RANGE_SID, 50, "range_sid") \
+    X(WAKKEMOSUT_LABEL_MSD, 51, "msd") \
+    X(WAKKEMOSUT_LABEL_MSD_TYPE, 52, "msd_type") \
+    X(WAKKEMOSUT_LABEL_MSD_VALUE, 53, "msd_value") \
+    X(WAKKEMOSUT_LABEL_BANDWIDTH_ELEMENT, 54, "bandwidth_element") /* bytes a second, IEEE 754: RFC 5305, 3.6 */ \
+    X(WAKKEMOSUT_LABEL_TAG, 55, "tag") \
+    X(WAKKEMOSUT_LABEL_ALGORITHM_ELEMENT, 56, "algorithm_element") \
+    /* A label more is a line more, above this one. */
+
 enum wakkemosut_label {
-    WAKKEMOSUT_LABEL_TYPE = 0,
-    WAKKEMOSUT_LABEL_LENGTH = 1,
-    WAKKEMOSUT_LABEL_VALUE = 2,
-    WAKKEMOSUT_LABEL_RAW = 3,
-    WAKKEMOSUT_LABEL_SUB_TLVS = 4,
-    WAKKEMOSUT_LABEL_ADMIN_GROUP = 5,
-    WAKKEMOSUT_LABEL_LOCAL_IDENTIFIER = 6,
-    WAKKEMOSUT_LABEL_REMOTE_IDENTIFIER = 7,
-    WAKKEMOSUT_LABEL_IPV4_INTERFACE_ADDRESS = 8,
-    WAKKEMOSUT_LABEL_IPV4_NEIGHBOR_ADDRESS = 9,
-    WAKKEMOSUT_LABEL_IPV6_INTERFACE_ADDRESS = 10,
-    WAKKEMOSUT_LABEL_IPV6_NEIGHBOR_ADDRESS = 11,
-    WAKKEMOSUT_LABEL_MAX_BANDWIDTH = 12,
-    WAKKEMOSUT_LABEL_MAX_RESERVABLE_BANDWIDTH = 13,
-    WAKKEMOSUT_LABEL_UNRESERVED_BANDWIDTH = 14,
-    WAKKEMOSUT_LABEL_TE_DEFAULT_METRIC = 15,
-    WAKKEMOSUT_LABEL_FLAGS = 16,
-    WAKKEMOSUT_LABEL_WEIGHT = 17,
-    WAKKEMOSUT_LABEL_ALGORITHM = 18,
-    WAKKEMOSUT_LABEL_SID = 19,
-    WAKKEMOSUT_LABEL_NEIGHBOR_SYSTEM_ID = 20,
-    WAKKEMOSUT_LABEL_ANOMALOUS = 21,
-    WAKKEMOSUT_LABEL_DELAY = 22,
-    WAKKEMOSUT_LABEL_MIN_DELAY = 23,
-    WAKKEMOSUT_LABEL_MAX_DELAY = 24,
-    WAKKEMOSUT_LABEL_DELAY_VARIATION = 25,
-    WAKKEMOSUT_LABEL_LINK_LOSS = 26,
-    WAKKEMOSUT_LABEL_BANDWIDTH = 27,
-    WAKKEMOSUT_LABEL_ENDPOINT_BEHAVIOR = 28,
-    WAKKEMOSUT_LABEL_SRV6_SID = 29,
-    WAKKEMOSUT_LABEL_LOCATOR_BLOCK_LENGTH = 30,
-    WAKKEMOSUT_LABEL_LOCATOR_NODE_LENGTH = 31,
-    WAKKEMOSUT_LABEL_FUNCTION_LENGTH = 32,
-    WAKKEMOSUT_LABEL_ARGUMENT_LENGTH = 33,
-    WAKKEMOSUT_LABEL_TAGS = 34,
-    WAKKEMOSUT_LABEL_FLAG_X = 35,
-    WAKKEMOSUT_LABEL_FLAG_R = 36,
-    WAKKEMOSUT_LABEL_FLAG_N = 37,
-    WAKKEMOSUT_LABEL_IPV4_SOURCE_ROUTER_ID = 38,
-    WAKKEMOSUT_LABEL_IPV6_SOURCE_ROUTER_ID = 39,
-    WAKKEMOSUT_LABEL_RANGES = 40,
-    WAKKEMOSUT_LABEL_ALGORITHMS = 41,
-    WAKKEMOSUT_LABEL_MSDS = 42,
-    WAKKEMOSUT_LABEL_PREFERENCE = 43,
-    WAKKEMOSUT_LABEL_SRV6_FLAGS = 44,
-    WAKKEMOSUT_LABEL_IPV4_TE_ROUTER_ID = 45,
-    WAKKEMOSUT_LABEL_IPV6_TE_ROUTER_ID = 46,
-    WAKKEMOSUT_LABEL_SUB_TLV = 47,
-    WAKKEMOSUT_LABEL_RANGE = 48,
-    WAKKEMOSUT_LABEL_RANGE_SIZE = 49,
-    WAKKEMOSUT_LABEL_RANGE_SID = 50,
-    WAKKEMOSUT_LABEL_MSD = 51,
-    WAKKEMOSUT_LABEL_MSD_TYPE = 52,
-    WAKKEMOSUT_LABEL_MSD_VALUE = 53,
-    WAKKEMOSUT_LABEL_BANDWIDTH_ELEMENT = 54,
-    WAKKEMOSUT_LABEL_TAG = 55,
-    WAKKEMOSUT_LABEL_ALGORITHM_ELEMENT = 56
+    WAKKEMOSUT_LABELS(WAKKEMOSUT_ENUM_CASE)
+    WAKKEMOSUT_LABELS_END /* one past the last label */
 };
+
+/* The text of a label, such as "te_default_metric", or NULL where the number is no label. */
+static inline const char *wakkemosut_label_name(uint64_t label) {
+    switch (label) {
+        WAKKEMOSUT_LABELS(WAKKEMOSUT_TEXT_CASE)
+    default:
+        return NULL;
+    }
+}
+
+#undef WAKKEMOSUT_ENUM_CASE
+#undef WAKKEMOSUT_TEXT_CASE
+
+/*
+ * Going over records. A record stands at a position, counted in records from 0. Those that a walk or push writes begin at the
+ * position that tape[WAKKEMOSUT_TAPE_USED] is before the call, and are numbers[WAKKEMOSUT_WRITTEN]. Of a record that was read:
+ * - its next sibling stands at wakkemosut_next(position, record): behind a container at its children's end (word 5), behind a
+ *   leaf at the next position;
+ * - its children stand from word 4 on, each at the next of the one before, and end before word 5; for a leaf both are 0, so it
+ *   has none;
+ * - its octets are those of the area from area[start - base] on, and end before area[end - base].
+ * What the library wrote nests at most 4 containers deep. If a tape's words come from elsewhere, ask wakkemosut_nest_test first.
+ */
+
+/* The position of a record's next sibling, from its own position and the six words that a read gave; never its own or before. */
+static inline uint64_t wakkemosut_next(uint64_t position, const uint64_t record[6]) {
+    const uint64_t end = record[WAKKEMOSUT_WORD_CHILDREN_END];
+    const uint64_t shape = WAKKEMOSUT_SHAPE_OF(record[WAKKEMOSUT_WORD_KIND]);
+    return WAKKEMOSUT_IS_CONTAINER(shape) && end > position ? end : position + 1;
+}
 
 /*
  * Walks an area in a registry and appends its records to the tape: the array of its complete entries and all inside it. The

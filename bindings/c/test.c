@@ -1,7 +1,8 @@
 /*
  * Uses every function of wakkemosut.h and holds it to document 01: its examples, and each refusal of each function. The calls on
- * a tape are tested in both layouts, the slim one by document 02, request 09. Prints one line and exits with 0, or names the first
- * check that failed and exits with 1.
+ * a tape are tested in both layouts, the slim one by document 02, request 09. What the header itself defines is tested too; all texts
+ * of labels and answers are held by bindings/rust/tests/numbers.rs. Prints one line and exits with 0, or names the first check that
+ * failed and exits with 1.
  */
 #include <stdio.h>
 #include <stdlib.h>
@@ -15,9 +16,13 @@
 #define BASE 100
 #define ROOM 5
 #define MORE_ROOM 7
+#define NESTED_ROOM 14
+#define LABELS 57
+#define NO_ANSWER "no answer of this library"
 #define WORDS words_for(ROOM)
 #define MORE_WORDS words_for(MORE_ROOM)
-#define LENT WAKKEMOSUT_TAPE_WORDS(MORE_ROOM)
+#define NESTED_WORDS words_for(NESTED_ROOM)
+#define LENT WAKKEMOSUT_TAPE_WORDS(NESTED_ROOM)
 #define GUARD UINT64_C(0x5A5AA5A501234567)
 #define GUARD_OCTET 0xC3
 
@@ -31,6 +36,9 @@ static const uint64_t LISTING[ROOM][6] = {
     {KIND(WAKKEMOSUT_LABEL_TYPE, WAKKEMOSUT_SHAPE_U8, 0), 100, 101, 18, 0, 0},
     {KIND(WAKKEMOSUT_LABEL_LENGTH, WAKKEMOSUT_SHAPE_U8, 0), 101, 102, 3, 0, 0},
     {KIND(WAKKEMOSUT_LABEL_TE_DEFAULT_METRIC, WAKKEMOSUT_SHAPE_U32, 0), 102, 105, 10, 0, 0}};
+
+/* Registry 2: the range of 01's ninth case, a preference of 7, and an octet after it. */
+static const uint8_t NESTED[15] = {0x02, 0x09, 0xC0, 0x00, 0x03, 0xE8, 0x01, 0x03, 0x00, 0x3E, 0x80, 0x18, 0x01, 0x07, 0xFF};
 
 /* What a refused read gives. */
 static const uint64_t ZEROS[6] = {0, 0, 0, 0, 0, 0};
@@ -90,7 +98,7 @@ static const struct layout SLIM = {
 /* The layout under test. */
 static const struct layout *layout = &USUAL;
 
-/* A tape with room for the third case and more, a word after it that must stay, and the numbers of the last call. */
+/* A tape with room for each area of this test, a word after it that must stay, and the numbers of the last call. */
 static uint64_t tape[LENT + 1];
 static uint64_t numbers[WAKKEMOSUT_NUMBERS + 1];
 static unsigned checks;
@@ -318,7 +326,7 @@ static void test_push_room(void) {
 static void test_area(area_call *call) {
     static const uint8_t too_long[WAKKEMOSUT_LONGEST_AREA + 1];
     const uint8_t six[6] = {0x12, 0x04, 0x00, 0x00, 0x0A, 0x00};
-    const uint64_t array[6] = {LISTING[0][0], UINT64_C(4294967290), WAKKEMOSUT_HIGHEST_OCTET, 0, 1, 5};
+    const uint64_t array[6] = {LISTING[0][0], UINT64_C(4294967290), WAKKEMOSUT_HIGHEST_END, 0, 1, 5};
     start();
     call(METRIC, sizeof METRIC, BASE, 6, tape, WORDS, numbers);
     CHECK(refused(WAKKEMOSUT_NO_REGISTRY));
@@ -367,7 +375,7 @@ static void test_read(void) {
     CHECK(reads(5, WORDS, ZEROS) && refused(WAKKEMOSUT_PAST_COUNT));
     for (at = 0; at < ROOM; at++)
         CHECK(reads(at, WORDS, LISTING[at]) && gave(WAKKEMOSUT_DONE, 0, 0, 0));
-    put_changed(4, WAKKEMOSUT_WORD_KIND, KIND(57, 0, 0));
+    put_changed(4, WAKKEMOSUT_WORD_KIND, KIND(LABELS, 0, 0));
     CHECK(reads(4, WORDS, ZEROS) && refused(WAKKEMOSUT_NO_RECORD));
     put_changed(4, WAKKEMOSUT_WORD_KIND, KIND(0, 9, 0));
     CHECK(reads(4, WORDS, ZEROS) && refused(WAKKEMOSUT_NO_RECORD));
@@ -389,6 +397,96 @@ static void test_nest_test(void) {
     CHECK(layout->nest_test(tape, WORDS) == 0);
 }
 
+/* Whether a read of a position is done; if so, the record is given. */
+static int read_at(uint64_t at, uint64_t record[6]) {
+    layout->read(tape, NESTED_WORDS, at, record, numbers);
+    return gave(WAKKEMOSUT_DONE, 0, 0, 0);
+}
+
+/* Whether the records beside each other from a position up to an end are those at these positions, so many. */
+static int siblings(uint64_t at, uint64_t end, size_t count, const uint64_t *wanted) {
+    uint64_t record[6];
+    for (; at < end && count > 0; count--) {
+        if (at != *wanted++ || !read_at(at, record))
+            return 0;
+        at = wakkemosut_next(at, record);
+    }
+    return at == end && count == 0;
+}
+
+/* Whether the children of a record are those at these positions, so many. */
+static int children(uint64_t at, size_t count, const uint64_t *wanted) {
+    uint64_t record[6];
+    return read_at(at, record) &&
+           siblings(record[WAKKEMOSUT_WORD_FIRST_CHILD], record[WAKKEMOSUT_WORD_CHILDREN_END], count, wanted);
+}
+
+/* The records of 01's listing: one tree, three fields in one entry, and the octets of the metric. */
+static void test_siblings_listed(void) {
+    static const uint64_t positions[5] = {0, 1, 2, 3, 4};
+    const uint8_t *octets;
+    uint64_t record[6];
+    start_with_metric();
+    CHECK(siblings(0, tape[WAKKEMOSUT_TAPE_USED], 1, positions));
+    CHECK(children(0, 1, positions + 1));
+    CHECK(children(1, 3, positions + 2));
+    CHECK(children(4, 0, NULL));
+    CHECK(read_at(4, record));
+    octets = METRIC + (record[WAKKEMOSUT_WORD_START] - BASE);
+    CHECK(octets == METRIC + 2 && octets[0] == 0x00 && octets[1] == 0x00 && octets[2] == 0x0A);
+    CHECK(octets + 3 == METRIC + (record[WAKKEMOSUT_WORD_END] - BASE));
+}
+
+/* Two trees, the first of two entries, the first of which has ranges; each record's children, all in their places. */
+static void test_siblings_nested(void) {
+    static const uint64_t trees[2] = {0, 13}, entries[2] = {1, 9}, fields[4] = {2, 3, 4, 5}, ranges[1] = {6};
+    static const uint64_t of_range[2] = {7, 8}, preference[3] = {10, 11, 12};
+    static const uint64_t sid[6] = {KIND(WAKKEMOSUT_LABEL_RANGE_SID, WAKKEMOSUT_SHAPE_U32, 2), 108, 111, 16000, 0, 0};
+    uint64_t first;
+    fill();
+    layout->clear(tape, NESTED_WORDS, numbers);
+    CHECK(gave(WAKKEMOSUT_DONE, 0, 0, 0));
+    first = tape[WAKKEMOSUT_TAPE_USED];
+    layout->push(NESTED, sizeof NESTED, BASE, WAKKEMOSUT_REGISTRY_ROUTER_CAPABILITY, tape, NESTED_WORDS, numbers);
+    CHECK(numbers[WAKKEMOSUT_WRITTEN] == NESTED_ROOM && gave(WAKKEMOSUT_DONE, 14, 14, 14));
+    CHECK(siblings(first, first + NESTED_ROOM, 2, trees));
+    CHECK(children(0, 2, entries));
+    CHECK(children(1, 4, fields));
+    CHECK(children(5, 1, ranges));
+    CHECK(children(6, 2, of_range));
+    CHECK(children(9, 3, preference));
+    CHECK(children(8, 0, NULL) && children(13, 0, NULL));
+    CHECK(reads(8, NESTED_WORDS, sid) && gave(WAKKEMOSUT_DONE, 0, 0, 0));
+}
+
+/* The records that a second push writes begin at the count before it. */
+static void test_siblings_later(void) {
+    static const uint64_t trees[3] = {0, 1, 2}, entry[1] = {3}, fields[3] = {4, 5, 6};
+    uint64_t first;
+    start();
+    push_neighbor(METRIC, 1, MORE_WORDS);
+    CHECK(gave(WAKKEMOSUT_DONE, 0, 2, 2));
+    first = tape[WAKKEMOSUT_TAPE_USED];
+    push_neighbor(METRIC, sizeof METRIC, MORE_WORDS);
+    CHECK(gave(WAKKEMOSUT_DONE, 5, 5, 5));
+    CHECK(siblings(0, tape[WAKKEMOSUT_TAPE_USED], 3, trees));
+    CHECK(first == 2 && siblings(first, first + 5, 1, trees + 2));
+    CHECK(children(2, 1, entry) && children(3, 3, fields));
+}
+
+/* Three octets can need eight records, and these do: one more than seven, which are too few. */
+static void test_most_records(void) {
+    const uint8_t attributes[3] = {0x04, 0x01, 0xA0};
+    const size_t most = words_for(WAKKEMOSUT_MOST_RECORDS(sizeof attributes));
+    fill();
+    layout->clear(tape, most, numbers);
+    CHECK(gave(WAKKEMOSUT_DONE, 0, 0, 0));
+    layout->push(attributes, 3, BASE, WAKKEMOSUT_REGISTRY_PREFIX, tape, words_for(7), numbers);
+    CHECK(gave(WAKKEMOSUT_NO_ROOM, 0, 0, 8));
+    layout->push(attributes, 3, BASE, WAKKEMOSUT_REGISTRY_PREFIX, tape, most, numbers);
+    CHECK(gave(WAKKEMOSUT_DONE, 3, 8, 8) && used(8) && untouched(most));
+}
+
 /* The calls on a tape, in the layout under test. */
 static void test_tape(void) {
     test_clear();
@@ -403,6 +501,10 @@ static void test_tape(void) {
     test_cut_back();
     test_read();
     test_nest_test();
+    test_siblings_listed();
+    test_siblings_nested();
+    test_siblings_later();
+    test_most_records();
 }
 
 /* The third case on a slim tape, its words worked out by hand. */
@@ -452,6 +554,70 @@ static void test_mask(void) {
     CHECK(prefix[0] == 0 && prefix[1] == 0 && prefix[2] == 0xFF);
 }
 
+/* What follows a record: words that no call leaves too, after which the next position is later all the same. */
+static void test_next(void) {
+    const uint64_t array[6] = {KIND(WAKKEMOSUT_LABEL_SUB_TLVS, WAKKEMOSUT_SHAPE_ARRAY, 5), 100, 105, 0, 8, 12};
+    const uint64_t object[6] = {KIND(WAKKEMOSUT_LABEL_SUB_TLV, WAKKEMOSUT_SHAPE_OBJECT, 5), 100, 105, 0, 8, 8};
+    const uint64_t leaf[6] = {KIND(WAKKEMOSUT_LABEL_RAW, WAKKEMOSUT_SHAPE_BYTES, 5), 100, 105, 0, 8, 12};
+    CHECK(wakkemosut_next(7, array) == 12 && wakkemosut_next(11, array) == 12);
+    CHECK(wakkemosut_next(12, array) == 13 && wakkemosut_next(40, array) == 41);
+    CHECK(wakkemosut_next(7, object) == 8 && wakkemosut_next(8, object) == 9);
+    CHECK(wakkemosut_next(7, leaf) == 8);
+}
+
+static void test_is_container(void) {
+    uint64_t shape;
+    for (shape = WAKKEMOSUT_SHAPE_U8; shape <= WAKKEMOSUT_SHAPE_BYTES; shape++)
+        CHECK(!WAKKEMOSUT_IS_CONTAINER(shape));
+    CHECK(WAKKEMOSUT_IS_CONTAINER(7) && WAKKEMOSUT_IS_CONTAINER(8) && !WAKKEMOSUT_IS_CONTAINER(9));
+}
+
+/* The bound of 01, 1 + floor(7 n / 3), worked out by hand; of sums, of a narrow type; a tape of the size that it gives. */
+static void test_bound(void) {
+    static const uint64_t for_a_tlv[WAKKEMOSUT_TAPE_WORDS(WAKKEMOSUT_MOST_RECORDS(255))];
+    static const uint64_t slim_for_a_tlv[WAKKEMOSUT_SLIM_TAPE_WORDS(WAKKEMOSUT_MOST_RECORDS(255))];
+    const uint16_t longest = WAKKEMOSUT_LONGEST_AREA;
+    CHECK(WAKKEMOSUT_MOST_RECORDS(0) == 0);
+    CHECK(WAKKEMOSUT_MOST_RECORDS(1) == 3);
+    CHECK(WAKKEMOSUT_MOST_RECORDS(2) == 5);
+    CHECK(WAKKEMOSUT_MOST_RECORDS(3) == 8);
+    CHECK(WAKKEMOSUT_MOST_RECORDS(2 + 4) == 15 && WAKKEMOSUT_MOST_RECORDS(1 & 2) == 0);
+    CHECK(WAKKEMOSUT_MOST_RECORDS(65535) == 152916);
+    CHECK(WAKKEMOSUT_MOST_RECORDS(longest) == 152916);
+    CHECK(sizeof for_a_tlv == 8 * (4 + 6 * 596) && sizeof slim_for_a_tlv == 8 * (4 + 4 * 596));
+}
+
+/* Whether a text is this one, or both are none. */
+static int says(const char *text, const char *wanted) {
+    return wanted == NULL || text == NULL ? text == wanted : strcmp(text, wanted) == 0;
+}
+
+static void test_label_name(void) {
+    uint64_t label;
+    for (label = 0; label < LABELS; label++)
+        CHECK(wakkemosut_label_name(label) != NULL);
+    CHECK(says(wakkemosut_label_name(0), "type"));
+    CHECK(says(wakkemosut_label_name(WAKKEMOSUT_LABEL_TE_DEFAULT_METRIC), "te_default_metric"));
+    CHECK(says(wakkemosut_label_name(46), "ipv6_te_router_id"));
+    CHECK(says(wakkemosut_label_name(47), "sub_tlv"));
+    CHECK(says(wakkemosut_label_name(56), "algorithm_element"));
+    CHECK(WAKKEMOSUT_LABELS_END == LABELS && says(wakkemosut_label_name(LABELS), NULL));
+    CHECK(says(wakkemosut_label_name(256), NULL));
+    CHECK(says(wakkemosut_label_name(UINT64_C(4294967296)), NULL));
+    CHECK(says(wakkemosut_label_name(UINT64_MAX), NULL));
+}
+
+static void test_answer_text(void) {
+    CHECK(says(wakkemosut_answer_text(WAKKEMOSUT_DONE), "done"));
+    CHECK(says(wakkemosut_answer_text(1), "the registry is not 0 to 5"));
+    CHECK(says(wakkemosut_answer_text(WAKKEMOSUT_NO_ROOM), "no room for the records"));
+    CHECK(says(wakkemosut_answer_text(9), "the name is longer than the lent octets"));
+    CHECK(says(wakkemosut_answer_text(10), "the dump program's input is too short or too long"));
+    CHECK(WAKKEMOSUT_ANSWERS_END == 11 && says(wakkemosut_answer_text(11), NO_ANSWER));
+    CHECK(says(wakkemosut_answer_text(UINT64_C(4294967296)), NO_ANSWER));
+    CHECK(says(wakkemosut_answer_text(UINT64_MAX), NO_ANSWER));
+}
+
 int main(void) {
     layout = &USUAL;
     test_tape();
@@ -460,6 +626,11 @@ int main(void) {
     test_slim_words();
     test_name();
     test_mask();
+    test_next();
+    test_is_container();
+    test_bound();
+    test_label_name();
+    test_answer_text();
     printf("test.c: %u checks held\n", checks);
     return 0;
 }
