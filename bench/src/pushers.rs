@@ -77,8 +77,8 @@ impl<L: Layout> Pusher<'_> for Ours<L> {
         let octets = black_box(&area.octets[..]);
         let laid = tape.push(area.registry, BASE.into(), octets);
         laid.expect("the area is not refused");
-        black_box(tape.words());
-        tape.mark().0 as usize
+        // The first word is the count; to ask the tape for it would be a call that is timed too.
+        black_box(tape.words())[0] as usize
     }
 }
 

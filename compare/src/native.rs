@@ -1,5 +1,8 @@
 //! The proved library over its C boundary.
 
+// The binding links the library; nothing else of it is used here.
+use wakkemosut as _;
+
 use crate::layout::Layout;
 
 /// The numbers that a call gives back.

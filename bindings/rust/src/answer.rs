@@ -17,8 +17,9 @@ pub struct Laid {
 }
 
 /// Why a call was refused: the answers of document 01 but 0, which is `Ok`. Whatever was lent is
-/// then as it was before the call.
+/// then as it was before the call. Later answers may come.
 #[derive(Clone, Copy, Debug, PartialEq, Eq, Hash)]
+#[non_exhaustive]
 #[repr(u8)]
 pub enum Refusal {
     /// The registry is not 0 to 5. Through this crate no call is refused so, since a
@@ -26,7 +27,7 @@ pub enum Refusal {
     NoRegistry = 1,
     /// The area has over 65,535 octets.
     AreaTooLong = 2,
-    /// The area would end after octet 4,294,967,295.
+    /// Base and area length add up to over 4,294,967,295.
     BaseTooHigh = 3,
     /// What was lent is no tape of the layout asked for: it has under 4 words, its header is not
     /// one, or it says that more records are used than there is room for.
@@ -55,6 +56,7 @@ impl Refusal {
     ///
     /// assert_eq!(Refusal::NoRoom { needed: 7 }.number(), 5);
     /// ```
+    #[must_use]
     pub const fn number(self) -> u64 {
         match self {
             Self::NoRegistry => 1,
@@ -75,7 +77,7 @@ impl fmt::Display for Refusal {
         let text = match self {
             Self::NoRegistry => "the registry is not 0 to 5",
             Self::AreaTooLong => "the area has over 65,535 octets",
-            Self::BaseTooHigh => "the area would end after octet 4,294,967,295",
+            Self::BaseTooHigh => "base + area length is over 4,294,967,295",
             Self::NoTape => "the lent words are no tape",
             Self::NoRoom { needed } => return write!(out, "no room for {needed} records"),
             Self::PastCount => "past the count of records",

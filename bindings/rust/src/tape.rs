@@ -6,6 +6,7 @@ use crate::answer::{Laid, Refusal};
 use crate::ffi::{self, Numbers};
 use crate::layout::{Layout, Slim, Usual};
 use crate::record::{Position, Record};
+use crate::records::Records;
 use crate::registry::Registry;
 use crate::trees::Trees;
 
@@ -16,6 +17,7 @@ const HEADER: usize = 4;
 pub const LONGEST_AREA: usize = 65_535;
 
 /// The most records that an area of so many octets needs: 1 + 7 n / 3, or none where it is empty.
+#[must_use]
 pub const fn most_records(octets: usize) -> usize {
     match octets {
         0 => 0,
@@ -27,7 +29,25 @@ pub const fn most_records(octets: usize) -> usize {
 /// a tape over words that another tape left has that one's records.
 ///
 /// Its records lie in a [`Layout`]: the [`Usual`] one, or the [`Slim`] one, which takes two thirds
-/// of the memory. The calls are the same and give the same in both.
+/// of the memory. The calls are the same and give the same in both. Only how a tape begins has
+/// three names: for the usual layout, for the slim one, and for callers that name the layout in the
+/// type, as in `Tape::<L>::in_layout`.
+///
+/// | | usual | slim | named in the type |
+/// |---|---|---|---|
+/// | the words to lend | [`words_for`] | [`slim_words_for`] | [`words_in_layout`] |
+/// | a tape without records | [`cleared`] | [`slim_cleared`] | [`cleared_in_layout`] |
+/// | the tape that words are | [`over`] | [`slim_over`] | [`in_layout`] |
+///
+/// [`words_for`]: Tape::words_for
+/// [`slim_words_for`]: Tape::slim_words_for
+/// [`words_in_layout`]: Tape::words_in_layout
+/// [`cleared`]: Tape::cleared
+/// [`slim_cleared`]: Tape::slim_cleared
+/// [`cleared_in_layout`]: Tape::cleared_in_layout
+/// [`over`]: Tape::over
+/// [`slim_over`]: Tape::slim_over
+/// [`in_layout`]: Tape::in_layout
 #[derive(Debug)]
 pub struct Tape<'words, L: Layout = Usual> {
     words: &'words mut [u64],
@@ -37,6 +57,7 @@ pub struct Tape<'words, L: Layout = Usual> {
 /// Tapes of the usual layout.
 impl<'words> Tape<'words, Usual> {
     /// The words of a tape with room for so many records.
+    #[must_use]
     pub const fn words_for(records: usize) -> usize {
         Self::words_in_layout(records)
     }
@@ -50,8 +71,9 @@ impl<'words> Tape<'words, Usual> {
         Self::cleared_in_layout(words)
     }
 
-    /// The tape that these words are. They may be anything: where they are no tape, each call says
-    /// so.
+    /// The tape that these words are. They may be anything: where they are no tape, it has no
+    /// records, and each call that can be refused says so.
+    #[must_use]
     pub fn over(words: &'words mut [u64]) -> Self {
         Self::in_layout(words)
     }
@@ -60,6 +82,7 @@ impl<'words> Tape<'words, Usual> {
 /// Tapes of the slim layout.
 impl<'words> Tape<'words, Slim> {
     /// The words of a slim tape with room for so many records.
+    #[must_use]
     pub const fn slim_words_for(records: usize) -> usize {
         Self::words_in_layout(records)
     }
@@ -73,8 +96,9 @@ impl<'words> Tape<'words, Slim> {
         Self::cleared_in_layout(words)
     }
 
-    /// The slim tape that these words are. They may be anything: where they are no slim tape, each
-    /// call says so.
+    /// The slim tape that these words are. They may be anything: where they are no slim tape, it
+    /// has no records, and each call that can be refused says so.
+    #[must_use]
     pub fn slim_over(words: &'words mut [u64]) -> Self {
         Self::in_layout(words)
     }
@@ -98,6 +122,7 @@ impl<'words, L: Layout> Tape<'words, L> {
     /// assert_eq!(records::<wakkemosut::Usual>(&area), Ok(5));
     /// assert_eq!(records::<wakkemosut::Slim>(&area), Ok(5));
     /// ```
+    #[must_use]
     pub const fn words_in_layout(records: usize) -> usize {
         records
             .saturating_mul(L::RECORD_WORDS)
@@ -116,6 +141,7 @@ impl<'words, L: Layout> Tape<'words, L> {
     }
 
     /// As [`over`](Tape::over), in the layout that the type names.
+    #[must_use]
     pub fn in_layout(words: &'words mut [u64]) -> Self {
         Self {
             words,
@@ -165,10 +191,43 @@ impl<'words, L: Layout> Tape<'words, L> {
         laid(ffi::push::<L>(self.words, registry.number(), base, area))
     }
 
-    /// The position at which the next record will stand: the count of records, as the header has
-    /// it. 0 where there is no header.
+    /// The position at which the next record will stand: the count of records. 0 where the words
+    /// are no tape.
+    #[must_use]
     pub fn mark(&self) -> Position {
+        // A read there is refused, on any words; how, tells whether they are a tape.
+        match self.read(Position(u64::MAX)) {
+            Err(Refusal::NoTape) => Position(0),
+            _ => self.used(),
+        }
+    }
+
+    /// The count of records, as the first word has it.
+    fn used(&self) -> Position {
         Position(self.words.first().copied().unwrap_or(0))
+    }
+
+    /// The count of records. 0 where the words are no tape.
+    ///
+    /// ```
+    /// use wakkemosut::{Refusal, Registry, Tape};
+    ///
+    /// let mut words = [7; Tape::words_for(5)];
+    /// assert!(Tape::over(&mut words).is_empty());
+    /// let mut tape = Tape::cleared(&mut words)?;
+    /// tape.push(Registry::Binding, 100, &[1, 3, 0, 0, 7])?;
+    /// assert_eq!(tape.len(), 5);
+    /// # Ok::<(), Refusal>(())
+    /// ```
+    #[must_use]
+    pub fn len(&self) -> usize {
+        self.mark().0 as usize
+    }
+
+    /// Whether there are no records.
+    #[must_use]
+    pub fn is_empty(&self) -> bool {
+        self.len() == 0
     }
 
     /// Takes the records off that were appended since the count was `mark`.
@@ -202,11 +261,31 @@ impl<'words, L: Layout> Tape<'words, L> {
     /// [`Refusal::NoTape`], [`Refusal::PastCount`] or [`Refusal::NoRecord`], looked for in this
     /// order.
     pub fn read(&self, at: Position) -> Result<Record<'_, L>, Refusal> {
-        Record::read(self, at)
+        Record::read(self, at, self.used())
+    }
+
+    /// All records, in the order of their positions.
+    ///
+    /// ```
+    /// use wakkemosut::{Refusal, Registry, Tape};
+    ///
+    /// let mut words = [0; Tape::words_for(5)];
+    /// let mut tape = Tape::cleared(&mut words)?;
+    /// tape.push(Registry::Neighbor, 100, &[0x12, 0x03, 0x00, 0x00, 0x0A])?;
+    /// let mut labels = Vec::new();
+    /// for record in tape.records() {
+    ///     labels.push(record?.label.name());
+    /// }
+    /// assert_eq!(labels, ["sub_tlvs", "sub_tlv", "type", "length", "te_default_metric"]);
+    /// # Ok::<(), Refusal>(())
+    /// ```
+    pub fn records(&self) -> Records<'_, L> {
+        Records::of(self)
     }
 
     /// Whether the records split into trees, their containers at most 4 deep. They do after any
     /// call on a tape on which they did before, and on a tape that was cleared.
+    #[must_use]
     pub fn nests(&self) -> bool {
         ffi::nest_test::<L>(self.words)
     }
@@ -218,6 +297,7 @@ impl<'words, L: Layout> Tape<'words, L> {
     }
 
     /// All words of the tape.
+    #[must_use]
     pub fn words(&self) -> &[u64] {
         self.words
     }

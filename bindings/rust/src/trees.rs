@@ -8,12 +8,13 @@ use crate::layout::{Layout, Usual};
 use crate::record::{Position, Record};
 use crate::tape::Tape;
 
-/// Records beside each other: those at the top of a tape, or the children of a container.
+/// Records beside each other, a row: those at the top of a tape, or the children of a container.
 ///
 /// A record that cannot be read comes as its refusal, and ends the row. No record that the library
 /// wrote does so. On words from elsewhere too each record stands later on the tape than the one
-/// before, so that every row ends.
+/// before and all that is inside it, so that every row ends.
 #[derive(Clone)]
+#[must_use = "records are read as they are asked for"]
 pub struct Trees<'tape, L: Layout = Usual> {
     tape: &'tape Tape<'tape, L>,
     next: Position,
@@ -34,9 +35,9 @@ impl<'tape, L: Layout> Iterator for Trees<'tape, L> {
         if self.next >= self.end {
             return None;
         }
-        let reading = Record::read(self.tape, self.next);
+        let reading = Record::read(self.tape, self.next, self.end);
         self.next = match &reading {
-            Ok(record) => past(record),
+            Ok(record) => record.past(),
             Err(_) => self.end,
         };
         Some(reading)
@@ -50,15 +51,5 @@ impl<L: Layout> fmt::Debug for Trees<'_, L> {
         let mut trees = out.debug_struct("Trees");
         trees.field("next", &self.next).field("end", &self.end);
         trees.finish_non_exhaustive()
-    }
-}
-
-/// The position past a record and all that is inside it.
-fn past<L: Layout>(record: &Record<'_, L>) -> Position {
-    let next = Position(record.position.0 + 1);
-    if record.is_container() {
-        next.max(record.descendants.end)
-    } else {
-        next
     }
 }

@@ -1,41 +1,17 @@
 //! The numbers of labels, shapes, registries and answers: this crate's and the C header's, by the
-//! text of the Rust module and of document 01.
+//! text of the Rust module and of document 01. For labels and answers the header's texts too.
+
+mod documents;
 
 use std::fmt::Debug;
 
+use documents::{between, joined, labels, registries, shapes};
 use wakkemosut::{
     LONGEST_AREA, LONGEST_NAME, Label, Layout, Refusal, Registry, Shape, Slim, Usual,
 };
 
 /// The C header.
 const HEADER: &str = include_str!("../../../include/wakkemosut.h");
-
-/// The Rust module, from which the names of the fields are taken.
-const SOURCE: &str = include_str!("../../../docs/src/crates/packet-dissector-isis/src/sub_tlv.rs");
-
-/// Document 01.
-const DOCUMENT: &str = include_str!("../../../docs/01-scope.md");
-
-/// The names of labels 47 to 56.
-const NAMES_FROM_47: [&str; 10] = [
-    "SUB_TLV",
-    "RANGE",
-    "RANGE_SIZE",
-    "RANGE_SID",
-    "MSD",
-    "MSD_TYPE",
-    "MSD_VALUE",
-    "BANDWIDTH_ELEMENT",
-    "TAG",
-    "ALGORITHM_ELEMENT",
-];
-
-/// The text after one mark and before the next other one.
-fn between<'text>(text: &'text str, before: &str, after: &str) -> &'text str {
-    let (_, rest) = text.split_once(before).expect(before);
-    let (found, _) = rest.split_once(after).expect(after);
-    found
-}
 
 /// The names and numbers of an enum of the header, its cases without this prefix.
 fn header(name: &str, prefix: &str) -> Vec<(String, u64)> {
@@ -49,32 +25,27 @@ fn header(name: &str, prefix: &str) -> Vec<(String, u64)> {
     numbered.collect()
 }
 
-/// The names of the fields of a sub-TLV object, in upper case and in the order of the schema.
-fn field_names() -> Vec<String> {
-    let schema = between(SOURCE, "const fn sub_tlv_fields(", "\n}\n")
-        .replace(" RAW_DESCRIPTOR,", " FieldDescriptor::new(\"raw\"")
-        .replace(" sub_tlvs,", " FieldDescriptor::new(\"sub_tlvs\"");
-    let fields = schema.split("FieldDescriptor::new(").skip(1);
-    fields
-        .map(|field| between(field, "\"", "\"").to_uppercase())
+/// The names, numbers and texts of a list of the header, its names without this prefix.
+fn header_list(name: &str, prefix: &str) -> Vec<(String, u64, String)> {
+    let start = format!("#define WAKKEMOSUT_{name}(X) \\\n");
+    let lines = between(HEADER, &start, "\n\n").lines();
+    let items = lines.filter(|line| line.contains("X("));
+    items
+        .map(|line| header_item(between(line, "X(", "\")"), prefix))
         .collect()
 }
 
-/// Names with their places, counted from 0.
-fn numbered<Name: Into<String>>(names: impl IntoIterator<Item = Name>) -> Vec<(String, u64)> {
-    names.into_iter().map(Into::into).zip(0..).collect()
+/// The name, without this prefix, the number and the text of an item such as `NAME, 1, "text`.
+fn header_item(item: &str, prefix: &str) -> (String, u64, String) {
+    let (name, rest) = item.split_once(", ").expect(item);
+    let (number, text) = rest.split_once(", \"").expect(item);
+    let name = name.strip_prefix(prefix).expect(item);
+    (name.into(), number.parse().expect(item), text.into())
 }
 
 /// A name such as `Ipv4TeRouterId` in the way of constants: `IPV4_TE_ROUTER_ID`.
 fn constant_name(name: &str) -> String {
-    let mut constant = String::new();
-    for letter in name.chars() {
-        if letter.is_uppercase() && !constant.is_empty() {
-            constant.push('_');
-        }
-        constant.push(letter.to_ascii_uppercase());
-    }
-    constant
+    joined(name, "_").to_uppercase()
 }
 
 /// The constants' name of a case, without what is inside it.
@@ -84,34 +55,23 @@ fn case_name(case: impl Debug) -> String {
     constant_name(name.expect("a case has a name"))
 }
 
-/// The names and numbers in a list of document 01, such as `0 this, 1 that`.
-fn listed(list: &str) -> Vec<(String, u64)> {
-    let items = list.split(", ").map(|item| item.split_once(' '));
-    let items = items.map(|item| item.expect("a number and a name"));
-    items
-        .map(|(number, name)| (name.into(), number.parse().expect(number)))
-        .collect()
-}
-
 #[test]
 fn labels_are_those_of_the_rust_and_of_document_01() {
-    let names = field_names().into_iter();
-    let expected = numbered(names.chain(NAMES_FROM_47.map(String::from)));
-    assert_eq!(expected.len(), 57);
+    let expected = labels();
     let ours = Label::ALL.iter();
-    let ours: Vec<_> = ours.map(|one| (case_name(one), one.number())).collect();
-    assert_eq!(ours, expected);
-    assert_eq!(header("label", "WAKKEMOSUT_LABEL_"), expected);
+    let ours = ours.map(|one| (case_name(one).to_lowercase(), one.number()));
+    assert_eq!(ours.collect::<Vec<_>>(), expected);
+    let lines = expected.into_iter();
+    let lines = lines.map(|(text, number)| (text.to_uppercase(), number, text));
+    let lines: Vec<_> = lines.collect();
+    assert_eq!(header_list("LABELS", "WAKKEMOSUT_LABEL_"), lines);
 }
 
 #[test]
 fn shapes_are_those_of_document_01() {
-    let list = listed(between(DOCUMENT, "Shapes: ", ". "));
-    let names = list
-        .iter()
-        .map(|(name, number)| (name.to_uppercase(), *number));
-    let expected: Vec<_> = names.collect();
-    assert_eq!(expected.len(), 9);
+    let shapes = shapes().into_iter();
+    let expected = shapes.map(|(name, number)| (name.to_uppercase(), number));
+    let expected: Vec<_> = expected.collect();
     let ours = Shape::ALL.iter();
     let ours: Vec<_> = ours.map(|one| (case_name(one), one.number())).collect();
     assert_eq!(ours, expected);
@@ -120,12 +80,9 @@ fn shapes_are_those_of_document_01() {
 
 #[test]
 fn registries_are_those_of_document_01() {
-    let list = listed(between(DOCUMENT, "## The registries\n\n", ". "));
-    let names = list
-        .iter()
-        .map(|(name, number)| (constant_name(name), *number));
-    let expected: Vec<_> = names.collect();
-    assert_eq!(expected.len(), 6);
+    let registries = registries().into_iter();
+    let expected = registries.map(|(name, number)| (constant_name(&name), number));
+    let expected: Vec<_> = expected.collect();
     let ours = Registry::ALL.iter();
     let ours: Vec<_> = ours.map(|one| (case_name(one), one.number())).collect();
     assert_eq!(ours, expected);
@@ -145,10 +102,12 @@ fn answers_of_the_header_are_those_of_the_wrapper() {
         Refusal::NoRecord,
         Refusal::NameTooLong,
     ];
-    let mut expected = vec![("DONE".to_string(), 0)];
-    expected.extend(refusals.map(|one| (case_name(one), one.number())));
-    expected.push(("DUMP_INPUT_LENGTH".into(), 10));
-    assert_eq!(header("answer", "WAKKEMOSUT_"), expected);
+    let text = |one: Refusal| one.to_string().replace(" 0 records", " the records");
+    let mut expected = vec![("DONE".to_string(), 0, "done".to_string())];
+    expected.extend(refusals.map(|one| (case_name(one), one.number(), text(one))));
+    let dump = "the dump program's input is too short or too long";
+    expected.push(("DUMP_INPUT_LENGTH".into(), 10, dump.into()));
+    assert_eq!(header_list("ANSWERS", "WAKKEMOSUT_"), expected);
 }
 
 #[test]
@@ -156,7 +115,7 @@ fn limits_of_the_header_are_those_of_the_wrapper() {
     let limit = |name: &str| between(HEADER, &format!("#define WAKKEMOSUT_{name} "), "\n");
     assert_eq!(limit("LONGEST_AREA"), LONGEST_AREA.to_string());
     assert_eq!(limit("LONGEST_NAME"), LONGEST_NAME.to_string());
-    assert_eq!(limit("HIGHEST_OCTET"), u32::MAX.to_string());
+    assert_eq!(limit("HIGHEST_END"), u32::MAX.to_string());
 }
 
 #[test]

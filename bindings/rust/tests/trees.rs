@@ -2,7 +2,7 @@
 
 mod shared;
 
-use shared::{in_both_layouts, put};
+use shared::{in_both_layouts, put, tape_of};
 use wakkemosut::{Label, Layout, Position, Record, Refusal, Registry, Tape, most_records};
 
 /// A prefix with an SRv6 End SID whose structure is inside, an entry of no meaning and a tail.
@@ -19,6 +19,14 @@ fn pushed<L: Layout>() -> Vec<u64> {
     let mut tape = Tape::<L>::cleared_in_layout(&mut words).unwrap();
     tape.push(Registry::Prefix, 0, &AREA).unwrap();
     words
+}
+
+/// The six words of a leaf.
+const LEAF: [u64; 6] = [0; 6];
+
+/// The six words of an array whose children begin and end at these positions.
+fn array(first_child: u64, children_end: u64) -> [u64; 6] {
+    [256 * 7, 0, 0, 0, first_child, children_end]
 }
 
 /// The positions of records.
@@ -47,6 +55,12 @@ in_both_layouts! {
     a_record_that_cannot_be_read_ends_the_row,
     a_row_ends_on_any_words,
     a_leaf_has_no_children_whatever_its_words,
+    no_record_is_its_own_child,
+    children_stand_behind_their_container,
+    children_end_where_the_container_around_theirs_does,
+    children_of_a_record_of_a_row_end_where_the_row_does,
+    children_end_where_the_records_do,
+    a_record_that_its_owner_changed_keeps_to_the_tape,
     what_is_cut_off_makes_room,
 }
 
@@ -129,6 +143,86 @@ fn a_leaf_has_no_children_whatever_its_words<L: Layout>() {
     let leaf = tape.read(Position(2)).unwrap();
     assert_eq!(leaf.descendants, Position(3)..Position(20));
     assert_eq!(leaf.children().count(), 0);
+}
+
+fn no_record_is_its_own_child<L: Layout>() {
+    let mut words = tape_of::<L>(&[array(0, 1)]);
+    let tape = Tape::<L>::in_layout(&mut words);
+    let own = tape.read(Position(0)).unwrap();
+    assert_eq!(own.descendants, Position(0)..Position(1));
+    assert_eq!(own.words(), array(0, 1));
+    assert_eq!(own.children().count(), 0);
+    let mut found = Vec::new();
+    all_inside(tape.trees_from(Position(0)), &mut found);
+    assert_eq!(found, [0]);
+}
+
+fn children_stand_behind_their_container<L: Layout>() {
+    for (first_child, children) in [(0, [2, 3]), (1, [2, 3]), (2, [2, 3])] {
+        let mut words = tape_of::<L>(&[LEAF, array(first_child, 4), LEAF, LEAF, LEAF]);
+        let tape = Tape::<L>::in_layout(&mut words);
+        let container = tape.read(Position(1)).unwrap();
+        assert_eq!(positions(container.children()), children, "{first_child}");
+        assert_eq!(positions(tape.trees_from(Position(0))), [0, 1, 4]);
+    }
+    let mut words = tape_of::<L>(&[LEAF, array(3, 4), LEAF, LEAF, LEAF]);
+    let tape = Tape::<L>::in_layout(&mut words);
+    let container = tape.read(Position(1)).unwrap();
+    assert_eq!(positions(container.children()), [3]);
+}
+
+fn children_end_where_the_container_around_theirs_does<L: Layout>() {
+    let mut words = tape_of::<L>(&[array(1, 4), array(2, 6), array(3, 6), LEAF, LEAF, LEAF]);
+    let tape = Tape::<L>::in_layout(&mut words);
+    let mut found = Vec::new();
+    all_inside(tape.trees_from(Position(0)), &mut found);
+    assert_eq!(found, [0, 1, 2, 3, 4, 5]);
+    let outer = tape.read(Position(0)).unwrap();
+    let middle = outer.children().next().unwrap().unwrap();
+    assert_eq!(middle.descendants, Position(2)..Position(6));
+    assert_eq!(positions(middle.children()), [2]);
+    let inner = middle.children().next().unwrap().unwrap();
+    assert_eq!(positions(inner.children()), [3]);
+    let alone = tape.read(Position(1)).unwrap();
+    assert_eq!(positions(alone.children()), [2]);
+    let alone = tape.read(Position(2)).unwrap();
+    assert_eq!(positions(alone.children()), [3, 4, 5]);
+}
+
+fn children_of_a_record_of_a_row_end_where_the_row_does<L: Layout>() {
+    let mut words = tape_of::<L>(&[array(1, 3), LEAF, array(3, 4), LEAF]);
+    let tape = Tape::<L>::in_layout(&mut words);
+    let outer = tape.trees_from(Position(0)).next().unwrap().unwrap();
+    assert_eq!(positions(outer.children()), [1, 2]);
+    let last = outer.children().last().unwrap().unwrap();
+    assert_eq!(last.children().count(), 0);
+    let top = tape.trees_from(Position(2)).next().unwrap().unwrap();
+    assert_eq!(positions(top.children()), [3]);
+    assert_eq!(top, last);
+}
+
+fn children_end_where_the_records_do<L: Layout>() {
+    let mut words = tape_of::<L>(&[array(1, 0xFFFF_FFFF), LEAF, LEAF]);
+    words[0] = 2;
+    let tape = Tape::<L>::in_layout(&mut words);
+    for container in [
+        tape.read(Position(0)),
+        tape.records().next().unwrap(),
+        tape.trees_from(Position(0)).next().unwrap(),
+    ] {
+        assert_eq!(positions(container.unwrap().children()), [1]);
+    }
+    assert_eq!(positions(tape.trees_from(Position(0))), [0]);
+}
+
+fn a_record_that_its_owner_changed_keeps_to_the_tape<L: Layout>() {
+    let mut words = tape_of::<L>(&[array(1, 2), LEAF, LEAF]);
+    let tape = Tape::<L>::in_layout(&mut words);
+    let mut container = tape.read(Position(0)).unwrap();
+    container.descendants = Position(0)..Position(u64::MAX);
+    assert_eq!(positions(container.children()), [1, 2]);
+    container.position = Position(u64::MAX);
+    assert_eq!(container.children().count(), 0);
 }
 
 fn what_is_cut_off_makes_room<L: Layout>() {

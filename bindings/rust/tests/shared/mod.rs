@@ -17,6 +17,18 @@ macro_rules! in_both_layouts {
 
 pub(crate) use in_both_layouts;
 
+/// The words of a tape with these records, each by its six words, and no more room. Not every test
+/// makes one.
+#[allow(dead_code)]
+pub fn tape_of<L: Layout>(records: &[[u64; 6]]) -> Vec<u64> {
+    let mut words = vec![0; Tape::<L>::words_in_layout(records.len())];
+    words[..4].copy_from_slice(&[records.len() as u64, 4, L::RECORD_WORDS as u64, 0]);
+    for (at, record) in records.iter().enumerate() {
+        put::<L>(&mut words, at, *record);
+    }
+    words
+}
+
 /// Puts a record with these six words on a tape.
 pub fn put<L: Layout>(words: &mut [u64], at: usize, record: [u64; 6]) {
     let first = Tape::<L>::words_in_layout(at);
