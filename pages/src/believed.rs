@@ -1,5 +1,5 @@
-//! What must be believed: the definitions that README.md lists, held to those that the contracts and
-//! the theorems speak of.
+//! What must be believed: the definitions that a page lists, held to those that the contracts and the
+//! theorems speak of.
 
 use std::collections::BTreeSet;
 
@@ -11,10 +11,10 @@ use crate::sources::public_functions;
 use crate::tree::Tree;
 
 /// The page with the list.
-pub const PAGE: &str = "README.md";
+pub const PAGE: &str = "docs/STATEMENTS.md";
 
 /// The section that has it.
-const SECTION: &str = "Read the proofs";
+pub const SECTION: &str = "What must be believed";
 
 /// The pages whose theorems are read.
 const THEOREMS: [&str; 2] = ["docs/STATEMENTS.md", "docs/MEANING.md"];

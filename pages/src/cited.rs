@@ -24,7 +24,7 @@ const ENDINGS: [&str; 4] = [".antt", ".rt", ".rs", ".md"];
 pub enum Citation<'a> {
     /// Items of a file: `tape/specs/Record.antt: words`, or `RecordLaws: label-made`.
     Items(&'a str, Vec<&'a str>),
-    /// A file, a folder, or an edit by crate and name: `tools/show`, `compare/`, `tape/wrong_tag`.
+    /// A file, a folder, or an edit by crate and name: `tools/run`, `compare/`, `tape/wrong_tag`.
     Path(&'a str),
     /// A module, or what it declares: `store::words::put`.
     Code(&'a str),

@@ -1,10 +1,11 @@
 //! The list of what must be believed has all that the contracts and the cited theorems speak of, and
 //! nothing else.
 
-use pages::believed::{Needed, PAGE, listed, theorems};
+use pages::believed::{Needed, PAGE, SECTION, listed, theorems};
 use pages::cited::Citable;
 use pages::contracts::EntryPoints;
 use pages::definitions::{Definitions, Place};
+use pages::markdown::section;
 use pages::sources::public_functions;
 use pages::tree::Tree;
 
@@ -47,7 +48,8 @@ fn anything_taken_off_the_list_is_found() {
     let citable = Citable::of(&tree);
     let needed = Needed::of(&tree, &citable);
     let page = tree.text(PAGE);
-    for line in page.lines().filter(|line| line.starts_with("| `")) {
+    let lines = section(page, SECTION).lines();
+    for line in lines.filter(|line| line.starts_with("| `")) {
         for name in line.split('`').skip(3).step_by(2) {
             let page = page.replace(line, &line.replace(&format!("`{name}`"), ""));
             let file = format!("/{}.antt: ", name.split(':').next().unwrap_or(name));

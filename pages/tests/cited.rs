@@ -59,3 +59,21 @@ fn a_quote_without_an_end_is_found() {
     let citable = Citable::of(&tree);
     assert_eq!(citable.faults("a `b` c\na `b\nc` d\n").len(), 2);
 }
+
+/// The lines of a page that are one word in capitals: a place that was to be filled.
+fn unfilled(page: &str) -> Vec<&str> {
+    let is_capital = |c: char| c.is_ascii_uppercase() || c.is_ascii_digit() || c == '-';
+    let lines = page.lines();
+    lines
+        .filter(|line| line.len() > 3 && line.chars().all(is_capital) && !line.starts_with('-'))
+        .collect()
+}
+
+#[test]
+fn no_place_on_a_page_was_left_to_be_filled() {
+    let tree = Tree::here();
+    for page in PAGES {
+        assert_eq!(unfilled(tree.text(page)), [""; 0], "{page}");
+    }
+    assert_eq!(unfilled("a\n\nADD-A-TYPE\n\nb\n----\n"), ["ADD-A-TYPE"]);
+}
