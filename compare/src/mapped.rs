@@ -1,4 +1,5 @@
-//! Memory that is mapped and takes no room until it is touched, for a tape of the greatest room.
+//! Mapped memory: words that take no room until they are touched, for a tape of the greatest room,
+//! and octets that a call must not touch.
 
 use std::ffi::{c_int, c_long, c_void};
 use std::ops::{Deref, DerefMut};
@@ -10,6 +11,9 @@ const IS_KNOWN: bool = cfg!(all(
     target_os = "linux",
     any(target_arch = "x86_64", target_arch = "aarch64")
 ));
+
+/// The pages may be neither read nor written.
+const NEITHER: c_int = 0;
 
 /// The pages may be read and written.
 const READ_AND_WRITE: c_int = 0x1 | 0x2;
@@ -27,6 +31,8 @@ unsafe extern "C" {
         file: c_int,
         offset: c_long,
     ) -> *mut c_void;
+    /// The system's call that says what may be done with mapped pages.
+    fn mprotect(start: *mut c_void, length: usize, access: c_int) -> c_int;
     /// The system's call that gives mapped pages back.
     fn munmap(start: *mut c_void, length: usize) -> c_int;
 }
@@ -91,6 +97,44 @@ impl Drop for Mapped {
     }
 }
 
+/// Octets of which the first can be neither read nor written: who touches one ends the run.
+#[derive(Debug)]
+pub struct PartlyShut {
+    words: Mapped,
+    count: usize,
+}
+
+impl PartlyShut {
+    /// How many of the first octets are shut: whole pages, whatever a page has.
+    pub const SHUT: usize = 65_536;
+
+    /// The shut octets and so many open ones, all 0; nothing where the system does not give them.
+    pub fn before(open: usize) -> Option<Self> {
+        let count = Self::SHUT.checked_add(open)?;
+        let words = Mapped::words(count.div_ceil(size_of::<u64>()))?;
+        // SAFETY: these pages were mapped above, and nothing refers to them yet.
+        let answer = unsafe { mprotect(words.start.as_ptr().cast(), Self::SHUT, NEITHER) };
+        (answer == 0).then_some(Self { words, count })
+    }
+
+    /// Where the octets start, the shut ones first.
+    pub fn start(&mut self) -> *mut u8 {
+        self.words.start.as_ptr().cast()
+    }
+
+    /// The number of all octets.
+    pub fn count(&self) -> usize {
+        self.count
+    }
+
+    /// The open octets.
+    pub fn open(&mut self) -> &mut [u8] {
+        // SAFETY: these octets are mapped behind the shut ones, can be read and written, stay while
+        // this does, and nothing else has them.
+        unsafe { slice::from_raw_parts_mut(self.start().add(Self::SHUT), self.count - Self::SHUT) }
+    }
+}
+
 #[cfg(test)]
 mod tests {
     use super::*;
@@ -103,6 +147,17 @@ mod tests {
         assert_eq!(*words, [0; 1_000]);
         words[999] = 7;
         assert_eq!((words.len(), words[998], words[999]), (1_000, 0, 7));
+    }
+
+    #[test]
+    fn octets_behind_shut_ones_are_0_and_can_be_written() {
+        let Some(mut octets) = PartlyShut::before(3) else {
+            return println!("this system shuts no octets");
+        };
+        assert_eq!(octets.open(), [0; 3]);
+        octets.open()[2] = 7;
+        assert_eq!(octets.open(), [0, 0, 7]);
+        assert_eq!(octets.count(), PartlyShut::SHUT + 3);
     }
 
     #[test]

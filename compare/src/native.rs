@@ -4,6 +4,7 @@
 use wakkemosut as _;
 
 use crate::layout::Layout;
+use crate::mapped::PartlyShut;
 
 /// The numbers that a call gives back.
 #[repr(C)]
@@ -237,6 +238,14 @@ pub fn mask(prefix: &mut [u8], bits: usize) {
     // SAFETY: the pointer is good for reads and writes for the whole call,
     // and the length is that of the lent prefix.
     unsafe { wakkemosut_mask(prefix.as_mut_ptr(), prefix.len(), bits) };
+}
+
+/// Clears the bits of the lent octets after the first `bits`; where the call touches a shut one, the
+/// run ends.
+pub fn mask_partly_shut(octets: &mut PartlyShut, bits: usize) {
+    // SAFETY: the octets are mapped, and the length is theirs; those that are shut can be neither
+    // read nor written, by no mistake of the library either.
+    unsafe { wakkemosut_mask(octets.start(), octets.count(), bits) };
 }
 
 /// Writes the header of an empty tape.

@@ -1,36 +1,37 @@
-// The masking of a prefix (document 01, 'Masking').
+// The masking of a prefix (document 01, 'Masking'; RFC 5305, section 4).
 ghost use mathlib.Core.Path.{_≡_};
-ghost use Prim.Native.Nat.{_-_};
+ghost use Prim.Native.Nat.{_<_};
+ghost use lib.ListN.{length, replicate};
 ghost use Rattle.octets.specs.Mask.{kept, Masks};
 
-// The octet with its first `bits` bits kept and the others 0.
-fn keep(x: u8, bits: usize) -> u8
+// An octet with its first `bits` bits kept and the others 0: these are shifted out, and zeros in.
+fn cut(x: u8, bits: usize) -> u8
+    requires { ⌜ bits < 8 ⌝ }
     ensures { λ r. ⌜ r ≡ kept bits x ⌝ }
 {
-    if 8 <= bits {
-        return x;
-    }
-    let unit: usize = 1 << (8 - bits);
-    let whole = x as usize;
-    (whole - whole % unit) as u8
+    let others = 8 - bits;
+    (x as usize >> others << others) as u8
 }
 
-// The bits that are left to keep after an octet.
-fn less_an_octet(bits: usize) -> usize
-    ensures { λ r. ⌜ r ≡ bits - 8 ⌝ }
+// Makes every octet 0.
+fn zero(octets: &mut [u8])
+    ensures { λ _. ⌜ now (octets .exit) ≡ replicate (length (now (octets .entry))) 0 ⌝ }
 {
-    if bits < 8 { 0 } else { bits - 8 }
+    let mut i = 0;
+    while i < octets.len() {
+        octets[i] = 0;
+        i += 1;
+    }
 }
 
-// Clears the bits of `prefix` after the first `bits` bits.
+// Clears the bits of `prefix` after the first `bits` bits: whole octets are kept, one octet is cut, the rest become 0.
 pub fn mask_prefix(prefix: &mut [u8], bits: usize)
     ensures { λ _. ⌜ Masks bits (now (prefix .entry)) (now (prefix .exit)) ⌝ }
 {
-    let mut i = 0;
-    let mut left = bits;
-    while i < prefix.len() {
-        prefix[i] = keep(prefix[i], left);
-        left = less_an_octet(left);
-        i += 1;
+    let whole = bits / 8;
+    if prefix.len() <= whole {
+        return;
     }
+    prefix[whole] = cut(prefix[whole], bits % 8);
+    zero(&mut prefix[whole + 1..]);
 }

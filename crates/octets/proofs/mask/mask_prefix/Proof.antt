@@ -1,72 +1,62 @@
--- The loop: after i turns the first i octets are masked, and `left` is what is left of the bits.
-use mathlib.Core.Path.{_≡_, refl, sym, _∙_}
-use Prim.Native.Nat.{_-_, _*_, _≤_}
+-- Each part is that of the law `masked-parts`: whole octets kept, one octet cut, the rest zero.
 use native.Mathlib.Omega.{arith}
-use lib.ListN.{length, length-set}
-use lib.Seq.{paste, paste-zero}
-use Rattle.octets.specs.Mask.{masked}
-use Rattle.octets.specs.MaskLaws.{mask-more, masked-length}
-use Rattle.octets.specs.CopyLaws.{copied, inFront-whole}
+use borrow.Author.Needs.{needs}
+use mathlib.Core.Path.{sym}
+use lib.ListN.{length-set}
+use Rattle.octets.specs.MaskLaws.{masked-past, mask-made, masks-length}
 use Rattle.octets.proofs.mask.mask_prefix.Statement.{statement}
 use Rattle.octets.proofs.mask.mask_prefix.Tie as tie
 
-abbrev Inv-loop : tie.InvT-loop
-Inv-loop prefix₀ bits i₀ left₀ prefix i left = (prefix ≡ paste prefix₀ 0 (masked bits prefix₀) i) × ((left ≡ bits - i * 8) × ((i ≤ length prefix₀) × (length prefix ≡ length prefix₀)))
+returns : tie.Need-returns
+returns c = let a = c .before .before .args in record { left = sym (masked-past (a .bits) (a .prefix .now) (omega arith)) }
 
-abbrev μ-loop : tie.MeasureT-loop
-μ-loop prefix₀ bits i₀ left₀ prefix i left = length prefix₀ - i
+slice-read-cut : tie.Need-slice-read-cut
+slice-read-cut c = search needs
 
-loop-holds : tie.Need-loop-holds Inv-loop μ-loop
-loop-holds c = let a = c .before .args in (paste-zero (a .prefix .now) 0 (masked (a .bits) (a .prefix .now)), (omega arith, (omega arith, refl)))
+cut-requires : tie.Need-cut-requires
+cut-requires c κs = search needs
 
-slice-read-keep : tie.Need-slice-read-keep Inv-loop μ-loop
-slice-read-keep c = omega arith
+slice-write-prefix : tie.Need-slice-write-prefix
+slice-write-prefix c = search needs
 
-keep-requires : tie.Need-keep-requires Inv-loop μ-loop
-keep-requires c κs = tt
+add-zero : tie.Need-add-zero
+add-zero c = search needs
 
-slice-write-prefix : tie.Need-slice-write-prefix Inv-loop μ-loop
-slice-write-prefix c = omega arith
+sub-zero : tie.Need-sub-zero
+sub-zero c = rw length-set (omega arith)
 
-less-an-octet-requires : tie.Need-less-an-octet-requires Inv-loop μ-loop
-less-an-octet-requires c κs = tt
+part-zero-start : tie.Need-part-zero-start
+part-zero-start c = sub-zero c
 
-add-i : tie.Need-add-i Inv-loop μ-loop
-add-i c = omega arith
+part-zero-end : tie.Need-part-zero-end
+part-zero-end c = search needs
 
-loop-less : tie.Need-loop-less Inv-loop μ-loop
-loop-less c = omega arith
+zero-requires : tie.Need-zero-requires
+zero-requires c κs = search needs
 
-loop-again : tie.Need-loop-again Inv-loop μ-loop
-loop-again c =
-    let a = c .before .before .before .before .before .before .args in
-    let l = c .before .before .before .before .loop in
-    (mask-more (a .bits) (a .prefix .now) (l .prefix) (l .i) (l .left) (c .before .keep .result) (omega arith) (l .inv .0) (l .inv .1 .0) (c .before .keep .ensures), (omega arith, (omega arith, simp length-set (l .inv .1 .1 .1))))
+returns-2 : tie.Need-returns-2
+returns-2 c =
+    let zeroed = c .before .before in
+    let cut = zeroed .before .before in
+    let known = cut .before in
+    let a = known .before .before .before .args in
+    mask-made (a .bits) (a .prefix .now) (cut .cut .result) (zeroed .zero .last .0) (omega arith) (λ i. known .slice-known2 .given i .fits) (cut .cut .ensures) (zeroed .zero .ensures)
 
-same-length : tie.Need-same-length Inv-loop μ-loop
-same-length c = omega arith
-
-returns : tie.Need-returns Inv-loop μ-loop
-returns c =
-    let a = c .before .before .before .args in
-    let m = masked (a .bits) (a .prefix .now) in
-    let all : c .before .loop .i ≡ length m = omega (arith, masked-length (a .bits) (a .prefix .now)) in
-    let whole = inFront-whole (a .prefix .now) m (sym (masked-length (a .bits) (a .prefix .now))) in
-    record { left = c .before .loop .inv .0 ∙ copied (a .prefix .now) m (c .before .loop .i) all ∙ whole }
+same-length : tie.Need-same-length
+same-length c = masks-length (returns-2 c)
 
 pub mask-prefix-spec : {M : Type 1} → statement M
 mask-prefix-spec =
     tie.close
     (tie.spec
-    Inv-loop
-    μ-loop
-    loop-holds
-    slice-read-keep
-    keep-requires
+    returns
+    slice-read-cut
+    cut-requires
     slice-write-prefix
-    less-an-octet-requires
-    add-i
-    loop-less
-    loop-again
+    add-zero
+    sub-zero
+    part-zero-start
+    part-zero-end
+    zero-requires
     same-length
-    returns)
+    returns-2)
