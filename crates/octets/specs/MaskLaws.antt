@@ -32,14 +32,13 @@ kept-units : (b x : ℕ) → kept b x ≡ x / 2 ^ (8 - b) * 2 ^ (8 - b)
 unfolding kept
 kept-units b x = omega (arith, div-add-mod' x (2 ^ (8 - b)))
 
--- a number less its low bits is no greater
-pub kept-le : (b x : ℕ) → kept b x ≤ x
-unfolding kept
-kept-le b x = omega arith
+-- an octet whose low bits are shifted out, and zeros in, is an octet
+pub shifted-octet : (k x : ℕ) → x < 2 ^ 8 → (x / 2 ^ k * 2 ^ k) % 2 ^ 64 < 2 ^ 8
+shifted-octet k x octet = omega (arith, div-add-mod' x (2 ^ k))
 
--- an octet whose other bits are shifted out, and zeros in
+-- .. whose first bits are kept
 pub kept-shifted : (b x : ℕ) → x < 2 ^ 8 → (x / 2 ^ (8 - b) * 2 ^ (8 - b)) % 2 ^ 64 ≡ kept b x
-kept-shifted b x octet = rw (← kept-units b x) (mod-eq-of-lt (omega (arith, kept-le b x)))
+kept-shifted b x octet = omega (arith, kept-units b x, div-add-mod' x (2 ^ (8 - b)))
 
 -- a bit that is kept, counted from the least significant
 kept-high : (b x j : ℕ) → 8 - b ≤ j → kept b x / 2 ^ j ≡ x / 2 ^ j

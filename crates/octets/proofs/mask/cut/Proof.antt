@@ -1,7 +1,7 @@
 -- The bits after the first are shifted out, and zeros in.
 use native.Mathlib.Omega.{arith}
 use borrow.Author.Needs.{needs}
-use Rattle.octets.specs.MaskLaws.{kept-shifted, kept-le}
+use Rattle.octets.specs.MaskLaws.{shifted-octet, kept-shifted}
 use Rattle.octets.proofs.mask.cut.Statement.{statement}
 use Rattle.octets.proofs.mask.cut.Tie as tie
 
@@ -15,7 +15,7 @@ shl-result : tie.Need-shl-result
 shl-result c = search needs
 
 cast-result : tie.Need-cast-result
-cast-result c = rw (kept-shifted (c .args .bits) (c .args .x) (omega arith)) (omega (arith, kept-le (c .args .bits) (c .args .x)))
+cast-result c = record { fits = shifted-octet _ (c .args .x) (omega arith) }
 
 returns : tie.Need-returns
 returns c = kept-shifted (c .args .bits) (c .args .x) (omega arith)
