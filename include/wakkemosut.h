@@ -12,6 +12,7 @@
  *
  * Nothing is kept from one call to the next, no pointer either, and nothing is allocated. So calls may run in several threads at
  * once, as long as none writes what another one uses: no two of them use one tape at a time.
+ * The library uses no other functions than its own and C's memcpy and memset.
  *
  * Lengths of areas, prefixes and names count octets, those of tapes count words of 64 bits.
  */

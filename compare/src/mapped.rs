@@ -109,7 +109,7 @@ impl PartlyShut {
     pub const SHUT: usize = 65_536;
 
     /// The shut octets and so many open ones, all 0; nothing where the system does not give them.
-    pub fn before(open: usize) -> Option<Self> {
+    pub fn with_open(open: usize) -> Option<Self> {
         let count = Self::SHUT.checked_add(open)?;
         let words = Mapped::words(count.div_ceil(size_of::<u64>()))?;
         // SAFETY: these pages were mapped above, and nothing refers to them yet.
@@ -151,7 +151,7 @@ mod tests {
 
     #[test]
     fn octets_behind_shut_ones_are_0_and_can_be_written() {
-        let Some(mut octets) = PartlyShut::before(3) else {
+        let Some(mut octets) = PartlyShut::with_open(3) else {
             return println!("this system shuts no octets");
         };
         assert_eq!(octets.open(), [0; 3]);

@@ -106,7 +106,7 @@ fn octets_that_are_kept_whole_are_not_touched() {
     println!("seed {seed}");
     let mut random = Random::new(seed);
     for open in 0..=MOST_OCTETS {
-        let Some(mut octets) = PartlyShut::before(open) else {
+        let Some(mut octets) = PartlyShut::with_open(open) else {
             // Written past the test's own output, which is seen only where it fails.
             let message = b"masks.rs: NOT CHECKED, as this system shuts no octets\n";
             return stderr().write_all(message).expect("a message");
