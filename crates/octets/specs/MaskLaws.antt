@@ -100,14 +100,6 @@ masked-cut : (b x : ℕ) (xs : List ℕ) → b < 8 → Octets xs → masked b (x
 unfolding masked
 masked-cut b x xs h octets = let none : b - 8 ≡ 0 = omega arith in rw (none, masked-none xs octets)
 
--- whole octets kept, one octet cut, the rest zero
-pub masked-parts : (b : ℕ) (xs : List ℕ) → b / 8 < length xs → Octets xs → masked b xs ≡ take (b / 8) xs ++ kept (b % 8) (getD xs (b / 8) 0) ∷ replicate (length xs - suc (b / 8)) 0
-masked-parts b xs inside octets =
-    let rest = drop (suc (b / 8)) xs in
-    let left : b - b / 8 * 8 ≡ b % 8 = omega arith in
-    let after : Octets rest = λ i. rw (getD-drop (suc (b / 8)) xs i 0) (octets (suc (b / 8) + i)) in
-    rw (masked-split (b / 8) b xs (omega arith), left, drop-cons xs (b / 8) 0 inside, masked-cut (b % 8) (getD xs (b / 8) 0) rest (omega arith) after, length-drop (suc (b / 8)) xs)
-
 -- bit
 
 -- bits after the first b become 0 ..
@@ -120,7 +112,7 @@ pub bit-kept : (b : ℕ) (xs : List ℕ) (k : ℕ) → k < b → bit (masked b x
 unfolding bit
 bit-kept b xs k h = rw (masked-at b xs (k / 8), kept-high (b - k / 8 * 8) (getD xs (k / 8) 0) (7 - k % 8) (omega arith))
 
--- what the code makes
+-- an octet stored, and the octets after it lent
 
 -- the octets after octet i, as a part that is lent
 abbrev behind : List ℕ → ℕ → List ℕ
@@ -141,11 +133,20 @@ stored-behind xs i r rest inside =
     let none : drop (length stored - suc i) (drop (suc i) stored) ≡ [] = rw (← length-drop (suc i) stored) (drop-length (drop (suc i) stored)) in
     rw (add-one, none, append-nil, take-suc-set xs i r inside) (append-snoc (take i xs) r rest)
 
--- .. are masked, where that octet is cut and the part is zero
-pub mask-made : (b : ℕ) (xs : List ℕ) (r : ℕ) (rest : List ℕ) → b / 8 < length xs → Octets xs → r ≡ kept (b % 8) (getD xs (b / 8) 0) → let cut = set xs (b / 8) r in rest ≡ replicate (length (behind cut (b / 8))) 0 → Masks b xs (withBehind cut (b / 8) rest)
-mask-made b xs r rest inside octets cut zeros =
-    let parts = masked-parts b xs inside octets in
-    record { left = stored-behind xs (b / 8) r rest inside ∙ rw (zeros, behind-length xs (b / 8) r, cut) (sym parts) }
+-- octets in which the bits end
+
+module _ (b : ℕ) (xs : List ℕ) (inside : b / 8 < length xs) (octets : Octets xs) where
+  -- whole octets kept, one octet cut, the rest zero
+  pub masked-parts : masked b xs ≡ take (b / 8) xs ++ kept (b % 8) (getD xs (b / 8) 0) ∷ replicate (length xs - suc (b / 8)) 0
+  masked-parts =
+      let rest = drop (suc (b / 8)) xs in
+      let left : b - b / 8 * 8 ≡ b % 8 = omega arith in
+      let after : Octets rest = λ i. rw (getD-drop (suc (b / 8)) xs i 0) (octets (suc (b / 8) + i)) in
+      rw (masked-split (b / 8) b xs (omega arith), left, drop-cons xs (b / 8) 0 inside, masked-cut (b % 8) (getD xs (b / 8) 0) rest (omega arith) after, length-drop (suc (b / 8)) xs)
+
+  -- .. as the code makes them
+  pub mask-made : (r : ℕ) (rest : List ℕ) → r ≡ kept (b % 8) (getD xs (b / 8) 0) → let cut = set xs (b / 8) r in rest ≡ replicate (length (behind cut (b / 8))) 0 → Masks b xs (withBehind cut (b / 8) rest)
+  mask-made r rest cut zeros = record { left = stored-behind xs (b / 8) r rest inside ∙ rw (zeros, behind-length xs (b / 8) r, cut) (sym masked-parts) }
 
 -- Masks
 

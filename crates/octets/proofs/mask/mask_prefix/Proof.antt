@@ -40,7 +40,7 @@ returns-2 c =
     let cut = zeroed .before .before in
     let known = cut .before in
     let a = known .before .before .before .args in
-    mask-made (a .bits) (a .prefix .now) (cut .cut .result) (zeroed .zero .last .0) (omega arith) (λ i. known .slice-known2 .given i .fits) (cut .cut .ensures) (zeroed .zero .ensures)
+    mask-made (a .bits) (a .prefix .now) (omega arith) (λ i. known .slice-known2 .given i .fits) (cut .cut .result) (zeroed .zero .last .0) (cut .cut .ensures) (zeroed .zero .ensures)
 
 same-length : tie.Need-same-length
 same-length c = masks-length (returns-2 c)
