@@ -2,6 +2,8 @@
 
 use wakkemosut::Registry;
 
+use crate::pushers::records_of;
+
 /// The stored areas.
 const TEXT: &str = include_str!("../areas.txt");
 
@@ -14,6 +16,40 @@ pub struct Area {
     pub registry: Registry,
     /// Its octets.
     pub octets: Vec<u8>,
+    /// How many records it gives.
+    pub records: usize,
+}
+
+/// What a push takes of an area.
+#[derive(Clone, Copy, Debug, PartialEq)]
+pub struct Input<'areas> {
+    /// The registry.
+    pub registry: Registry,
+    /// The octets.
+    pub octets: &'areas [u8],
+    /// How many records they give.
+    pub records: usize,
+}
+
+impl Area {
+    /// The area of this name and these octets.
+    pub fn of(name: &str, registry: Registry, octets: Vec<u8>) -> Self {
+        Self {
+            name: name.into(),
+            registry,
+            records: records_of(registry, &octets),
+            octets,
+        }
+    }
+
+    /// What a push takes of it.
+    pub fn input(&self) -> Input<'_> {
+        Input {
+            registry: self.registry,
+            octets: &self.octets,
+            records: self.records,
+        }
+    }
 }
 
 /// The stored areas, in the order of the file.
@@ -40,11 +76,7 @@ fn area(name: &str, line: &str) -> Area {
     let registry = Registry::of(number(words.next(), line)).expect(line);
     let times = number(words.next(), line) as usize;
     let octets: Vec<u8> = words.flat_map(octets).collect();
-    Area {
-        name: name.into(),
-        registry,
-        octets: octets.repeat(times),
-    }
+    Area::of(name, registry, octets.repeat(times))
 }
 
 /// The number that a word is.
@@ -70,6 +102,7 @@ mod tests {
             name: "a name".into(),
             registry: Registry::Prefix,
             octets: vec![0x12, 0xAB, 0x0C, 0x12, 0xAB, 0x0C],
+            records: 2,
         };
         assert_eq!(parsed("# a\n# a name\n1 2 12AB 0C\n"), [expected]);
     }

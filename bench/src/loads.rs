@@ -1,12 +1,12 @@
 //! What is timed: areas in packets.
 
-use crate::areas::Area;
+use crate::areas::{Area, Input};
 
 /// The most octets of an area inside one TLV.
-const TLV: usize = 255;
+pub const TLV: usize = 255;
 
 /// Areas that are pushed one behind the other onto one buffer.
-pub type Packet<'areas> = Vec<&'areas Area>;
+pub type Packet<'areas> = Vec<Input<'areas>>;
 
 /// One row's work: packets that are pushed in turn.
 pub struct Load<'areas> {
@@ -25,7 +25,7 @@ impl<'areas> Load<'areas> {
         Self {
             name: &area.name,
             areas: vec![area],
-            packets: vec![vec![area; times]],
+            packets: vec![vec![area.input(); times]],
         }
     }
 
@@ -59,14 +59,19 @@ pub fn packets<'areas>(loads: &[Load<'areas>]) -> Vec<Packet<'areas>> {
 
 /// Areas cut into packets of at most `size`: first those that fit a TLV, then each other alone.
 fn cut<'areas>(areas: &[&'areas Area], size: usize) -> Vec<Packet<'areas>> {
-    let (short, long): (Packet<'_>, Packet<'_>) = areas.iter().partition(|area| fits_tlv(area));
+    let (short, long): (Vec<&Area>, Vec<&Area>) = areas.iter().partition(|area| fits_tlv(area));
     let together = short.chunks(size);
     let alone = long.chunks(1);
-    together.chain(alone).map(<[_]>::to_vec).collect()
+    together.chain(alone).map(packet).collect()
+}
+
+/// The packet of these areas.
+fn packet<'areas>(areas: &[&'areas Area]) -> Packet<'areas> {
+    areas.iter().map(|area| area.input()).collect()
 }
 
 /// Whether an area fits a TLV.
-fn fits_tlv(area: &Area) -> bool {
+pub fn fits_tlv(area: &Area) -> bool {
     area.octets.len() <= TLV
 }
 
@@ -78,11 +83,7 @@ mod tests {
 
     /// An area of so many octets.
     fn of_octets(octets: usize) -> Area {
-        Area {
-            name: octets.to_string(),
-            registry: Registry::Neighbor,
-            octets: vec![0; octets],
-        }
+        Area::of(&octets.to_string(), Registry::Neighbor, vec![0; octets])
     }
 
     /// The octets of each area of each packet.
@@ -96,7 +97,7 @@ mod tests {
         let area = of_octets(255);
         let load = Load::of_one(&area, 16);
         assert_eq!(load.areas, [&area]);
-        assert_eq!(load.packets, [vec![&area; 16]]);
+        assert_eq!(load.packets, [vec![area.input(); 16]]);
     }
 
     #[test]
@@ -104,7 +105,7 @@ mod tests {
         let area = of_octets(256);
         let load = Load::of_one(&area, 16);
         assert_eq!(load.areas, [&area]);
-        assert_eq!(load.packets, [[&area]]);
+        assert_eq!(load.packets, [[area.input()]]);
     }
 
     #[test]
@@ -122,7 +123,7 @@ mod tests {
         let loads = loads(&areas, 1);
         assert!(packets(&loads).iter().all(|packet| packet.len() == 1));
         let all = loads.last().expect("there are loads");
-        assert_eq!(all.packets.concat(), all.areas);
+        assert_eq!(all.packets.concat(), packet(&all.areas));
     }
 
     #[test]

@@ -2,13 +2,15 @@
 
 use std::hint::black_box;
 use std::marker::PhantomData;
+use std::time::{Duration, Instant};
 
 use oracle::bench::push_onto;
 use oracle::packet::DissectBuffer;
-use wakkemosut::{Layout, Position, Slim, Tape, Usual, most_records};
+use wakkemosut::{Layout, Position, Registry, Slim, Tape, Usual, most_records};
 
-use crate::areas::Area;
+use crate::areas::Input;
 use crate::loads::Packet;
+use crate::stores::{Of8, Of16, Stores};
 
 /// The place of every area's first octet.
 const BASE: u32 = 100;
@@ -19,7 +21,60 @@ pub trait Pusher<'areas> {
     fn empty(&mut self);
 
     /// Pushes an area behind what is there, and gives the count of all records that are there then.
-    fn push(&mut self, area: &'areas Area) -> usize;
+    fn push(&mut self, area: Input<'areas>) -> usize;
+
+    /// How long so many passes over these packets take. It is never inlined, so that each pusher
+    /// has a loop of its own.
+    #[inline(never)]
+    fn time(&mut self, packets: &[Packet<'areas>], passes: usize) -> Duration {
+        let start = Instant::now();
+        for _ in 0..passes {
+            for packet in packets {
+                self.empty();
+                for area in packet {
+                    black_box(self.push(*area));
+                }
+            }
+        }
+        start.elapsed()
+    }
+}
+
+/// How many there are that push.
+pub const COUNT: usize = 5;
+
+/// All that push.
+pub struct Pushers<'areas> {
+    rust: Rust<'areas>,
+    ours: Ours<Usual>,
+    slim: Ours<Slim>,
+    stores_of_8: Stores<Of8>,
+    stores_of_16: Stores<Of16>,
+}
+
+impl<'areas> Pushers<'areas> {
+    /// With room for each of these packets.
+    pub fn with_room_for(packets: &[Packet<'areas>]) -> Self {
+        Self {
+            rust: Rust::with_room_for(packets),
+            ours: Ours::with_room_for(packets),
+            slim: Ours::with_room_for(packets),
+            stores_of_8: Stores::with_room_for(packets),
+            stores_of_16: Stores::with_room_for(packets),
+        }
+    }
+
+    /// Each of them: the Rust, ours in the usual and in the slim layout, stores of 8 octets and of
+    /// 16. All tables have them in this order.
+    pub fn each(&mut self) -> [&mut dyn Pusher<'areas>; COUNT] {
+        [
+            &mut self.rust,
+            &mut self.ours,
+            &mut self.slim,
+            &mut self.stores_of_8,
+            &mut self.stores_of_16,
+        ]
+    }
 }
 
 /// The proved library, on a tape of a layout.
@@ -36,18 +91,25 @@ pub struct Rust<'areas> {
 impl<L: Layout> Ours<L> {
     /// With room to spare for each of these packets.
     pub fn with_room_for(packets: &[Packet<'_>]) -> Self {
-        let room = packets.iter().map(|packet| most_records_of(packet)).max();
         Self {
-            words: vec![0; Tape::<L>::words_in_layout(room.unwrap_or(0))],
+            words: vec![0; Tape::<L>::words_in_layout(most_records_of(packets))],
             layout: PhantomData,
         }
     }
 }
 
-/// The most records that the areas of a packet can need.
-fn most_records_of(packet: &[&Area]) -> usize {
-    let needs = packet.iter().map(|area| most_records(area.octets.len()));
-    needs.sum()
+/// The most records that the areas of any of these packets can need.
+pub fn most_records_of(packets: &[Packet<'_>]) -> usize {
+    let need = |area: &Input<'_>| most_records(area.octets.len());
+    let needs = packets.iter().map(|packet| packet.iter().map(need).sum());
+    needs.max().unwrap_or(0)
+}
+
+/// How many records an area gives, by the Rust.
+pub fn records_of(registry: Registry, octets: &[u8]) -> usize {
+    let mut buffer = DissectBuffer::new();
+    push_onto(&mut buffer, registry.number() as u8, BASE, octets);
+    buffer.fields().len()
 }
 
 impl<'areas> Rust<'areas> {
@@ -59,7 +121,7 @@ impl<'areas> Rust<'areas> {
         for packet in packets {
             rust.empty();
             for area in packet {
-                rust.push(area);
+                rust.push(*area);
             }
         }
         rust
@@ -72,9 +134,9 @@ impl<L: Layout> Pusher<'_> for Ours<L> {
         tape.clear().expect("there is room for a header");
     }
 
-    fn push(&mut self, area: &Area) -> usize {
+    fn push(&mut self, area: Input<'_>) -> usize {
         let mut tape = Tape::<L>::in_layout(&mut self.words);
-        let octets = black_box(&area.octets[..]);
+        let octets = black_box(area.octets);
         let laid = tape.push(area.registry, BASE.into(), octets);
         laid.expect("the area is not refused");
         // The first word is the count; to ask the tape for it would be a call that is timed too.
@@ -87,8 +149,8 @@ impl<'areas> Pusher<'areas> for Rust<'areas> {
         self.buffer.clear();
     }
 
-    fn push(&mut self, area: &'areas Area) -> usize {
-        let octets = black_box(&area.octets[..]);
+    fn push(&mut self, area: Input<'areas>) -> usize {
+        let octets = black_box(area.octets);
         let registry = area.registry.number() as u8;
         push_onto(&mut self.buffer, registry, BASE, octets);
         black_box(self.buffer.fields()).len()
@@ -96,29 +158,25 @@ impl<'areas> Pusher<'areas> for Rust<'areas> {
 }
 
 /// Asserts that the Rust and both layouts of ours give the same records for an area, and cover the
-/// same octets.
-pub fn assert_alike(area: &Area) {
-    let expected = oracle::push(area.registry.number() as u8, BASE, &area.octets);
-    assert_gives::<Usual>(area, &expected);
-    assert_gives::<Slim>(area, &expected);
+/// same octets. A failure says what area it is.
+pub fn assert_alike(name: &str, area: Input<'_>) {
+    let expected = oracle::push(area.registry.number() as u8, BASE, area.octets);
+    assert_eq!(area.records, expected.records.len(), "{name}");
+    assert_gives::<Usual>(name, area, &expected);
+    assert_gives::<Slim>(name, area, &expected);
 }
 
 /// Asserts that a tape of a layout, with just the room for them, gets these records for an area.
-fn assert_gives<L: Layout>(area: &Area, expected: &oracle::Push) {
-    let count = expected.records.len();
-    let mut lent = vec![u64::MAX; Tape::<L>::words_in_layout(count)];
+fn assert_gives<L: Layout>(name: &str, area: Input<'_>, expected: &oracle::Push) {
+    let mut lent = vec![u64::MAX; Tape::<L>::words_in_layout(area.records)];
     let mut tape = Tape::<L>::cleared_in_layout(&mut lent).expect("there is room for a header");
-    let laid = tape.push(area.registry, BASE.into(), &area.octets);
+    let laid = tape.push(area.registry, BASE.into(), area.octets);
     let laid = laid.expect("the area is not refused");
-    let (covered, written) = (expected.covered, count as u64);
-    assert_eq!(laid.covered, covered, "{}", area.name);
-    assert_eq!(laid.written, written, "{}", area.name);
+    let written = area.records as u64;
+    assert_eq!(laid.covered, expected.covered, "{name}");
+    assert_eq!(laid.written, written, "{name}");
     let records = (0..written).map(|at| tape.read(Position(at)).expect("it was written").words());
-    assert!(
-        records.eq(expected.records.iter().map(words)),
-        "{}",
-        area.name
-    );
+    assert!(records.eq(expected.records.iter().map(words)), "{name}");
 }
 
 /// The six words of a record.
@@ -138,47 +196,49 @@ fn words(record: &oracle::Record) -> [u64; 6] {
 
 #[cfg(test)]
 mod tests {
+    use std::slice;
+
     use super::*;
     use crate::areas::areas;
     use crate::loads::{loads, packets};
 
-    /// The counts of records after each push of a packet.
-    fn counts<'areas>(pusher: &mut impl Pusher<'areas>, packet: &[&'areas Area]) -> Vec<usize> {
-        pusher.empty();
-        packet.iter().map(|area| pusher.push(area)).collect()
+    /// The counts of records after each push of a packet, of each that pushes.
+    fn counts<'areas>(
+        pushers: &mut Pushers<'areas>,
+        packet: &[Input<'areas>],
+    ) -> [Vec<usize>; COUNT] {
+        pushers.each().map(|pusher| {
+            pusher.empty();
+            packet.iter().map(|area| pusher.push(*area)).collect()
+        })
     }
 
     #[test]
     fn all_have_the_same_counts_of_records_again_and_again() {
         let areas = areas();
         let packets = packets(&loads(&areas, 16));
-        let mut ours = Ours::<Usual>::with_room_for(&packets);
-        let mut slim = Ours::<Slim>::with_room_for(&packets);
-        let mut rust = Rust::with_room_for(&packets);
+        let mut pushers = Pushers::with_room_for(&packets);
         for packet in packets.iter().chain(packets.iter().rev()) {
-            let of_rust = counts(&mut rust, packet);
-            assert!(of_rust[0] > 0, "{}", packet[0].name);
-            assert_eq!(counts(&mut ours, packet), of_rust, "{}", packet[0].name);
-            assert_eq!(counts(&mut slim, packet), of_rust, "{}", packet[0].name);
+            let [of_rust, others @ ..] = counts(&mut pushers, packet);
+            assert!(of_rust[0] > 0, "{packet:?}");
+            assert!(others.iter().all(|counts| *counts == of_rust), "{packet:?}");
         }
     }
 
     #[test]
     fn a_push_goes_behind_what_is_there_in_all() {
         let areas = areas();
-        let packets = [vec![&areas[0]; 3]];
-        let mut ours = Ours::<Usual>::with_room_for(&packets);
-        let mut slim = Ours::<Slim>::with_room_for(&packets);
-        let mut rust = Rust::with_room_for(&packets);
-        assert_eq!(counts(&mut ours, &packets[0]), [5, 10, 15]);
-        assert_eq!(counts(&mut slim, &packets[0]), [5, 10, 15]);
-        assert_eq!(counts(&mut rust, &packets[0]), [5, 10, 15]);
+        let packet = vec![areas[0].input(); 3];
+        let mut pushers = Pushers::with_room_for(slice::from_ref(&packet));
+        for counts in counts(&mut pushers, &packet) {
+            assert_eq!(counts, [5, 10, 15]);
+        }
     }
 
     #[test]
     fn ours_has_room_for_the_most_that_the_largest_packet_can_need() {
         let areas = areas();
-        let (small, large) = (&areas[0], &areas[1]);
+        let (small, large) = (areas[0].input(), areas[1].input());
         let packets = [vec![large], vec![small, large, large], vec![small; 3]];
         let room = most_records(small.octets.len()) + 2 * most_records(large.octets.len());
         let ours = Ours::<Usual>::with_room_for(&packets);
@@ -190,8 +250,33 @@ mod tests {
     #[test]
     fn whole_packets_were_pushed_into_the_buffer_of_the_rust() {
         let areas = areas();
-        let packets = [vec![&areas[1]; 2], vec![&areas[0]; 16]];
+        let packets = [vec![areas[1].input(); 2], vec![areas[0].input(); 16]];
         let rust = Rust::with_room_for(&packets);
         assert_eq!(rust.buffer.fields().len(), 16 * 5);
+    }
+
+    /// A pusher that counts the pushes after each emptying.
+    #[derive(Default)]
+    struct Counting(Vec<usize>);
+
+    impl Pusher<'_> for Counting {
+        fn empty(&mut self) {
+            self.0.push(0);
+        }
+
+        fn push(&mut self, _area: Input<'_>) -> usize {
+            let pushes = self.0.last_mut().expect("it was emptied first");
+            *pushes += 1;
+            *pushes
+        }
+    }
+
+    #[test]
+    fn a_pass_empties_before_each_packet_and_pushes_its_areas() {
+        let areas = areas();
+        let packets = [vec![areas[0].input(); 3], vec![areas[1].input()]];
+        let mut counting = Counting::default();
+        counting.time(&packets, 2);
+        assert_eq!(counting.0, [3, 1, 3, 1]);
     }
 }

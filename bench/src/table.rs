@@ -5,14 +5,13 @@ use std::fmt;
 use wakkemosut::Tape;
 
 use crate::loads::Load;
-use crate::pushers::{Ours, Pusher};
 use crate::timing::Times;
 
 /// The lines above the rows.
 pub const HEAD: &str = "
 | areas | octets | records | Rust, ns a push | ours, ns a push | Rust / ours \
-| slim, ns a push | Rust / slim | tape, octets | slim tape, octets |
-|---|---|---|---|---|---|---|---|---|---|";
+| slim, ns a push | Rust / slim | stores of 8, ns | stores of 16, ns | tape, octets | slim tape, octets |
+|---|---|---|---|---|---|---|---|---|---|---|---|";
 
 /// One row of the table.
 pub struct Row<'areas> {
@@ -24,12 +23,9 @@ pub struct Row<'areas> {
 
 impl<'areas> Row<'areas> {
     /// The row of a load with these times; octets and records are those of its areas, each once.
-    pub fn of(load: &Load<'areas>, times: Times, ours: &mut Ours) -> Self {
+    pub fn of(load: &Load<'areas>, times: Times) -> Self {
         let octets = load.areas.iter().map(|area| area.octets.len());
-        let records = load.areas.iter().map(|area| {
-            ours.empty();
-            ours.push(area)
-        });
+        let records = load.areas.iter().map(|area| area.records);
         Self {
             name: load.name,
             octets: octets.sum(),
@@ -40,9 +36,15 @@ impl<'areas> Row<'areas> {
 
     /// The times, and how much longer the Rust takes than each of ours.
     fn times(&self) -> String {
-        let Times { rust, ours, slim } = self.times;
+        let [rust, ours, slim, ..] = self.times;
         let (ratio, slim_ratio) = (rust / ours, rust / slim);
         format!("{rust:.0} | {ours:.0} | {ratio:.2} | {slim:.0} | {slim_ratio:.2}")
+    }
+
+    /// The times of the bare stores.
+    fn limits(&self) -> String {
+        let [.., stores_of_8, stores_of_16] = self.times;
+        [stores_of_8, stores_of_16].map(nanoseconds).join(" | ")
     }
 
     /// The octets of a tape with room for the records, in each layout.
@@ -56,33 +58,34 @@ impl<'areas> Row<'areas> {
 impl fmt::Display for Row<'_> {
     fn fmt(&self, out: &mut fmt::Formatter<'_>) -> fmt::Result {
         let (name, octets, records) = (self.name, self.octets, self.records);
-        let (times, memory) = (self.times(), self.memory());
+        let (times, limits, memory) = (self.times(), self.limits(), self.memory());
         write!(
             out,
-            "| {name} | {octets} | {records} | {times} | {memory} |"
+            "| {name} | {octets} | {records} | {times} | {limits} | {memory} |"
         )
     }
+}
+
+/// A time of a few nanoseconds with a tenth, a longer one without.
+fn nanoseconds(time: f64) -> String {
+    let places = usize::from(time < 9.95);
+    format!("{time:.places$}")
 }
 
 #[cfg(test)]
 mod tests {
     use super::*;
     use crate::areas::areas;
-    use crate::loads::{loads, packets};
+    use crate::loads::loads;
 
     /// Some times.
-    const TIMES: Times = Times {
-        rust: 30.0,
-        ours: 20.0,
-        slim: 24.0,
-    };
+    const TIMES: Times = [30.0, 20.0, 24.0, 9.96, 5.04];
 
     #[test]
     fn a_row_has_the_octets_and_records_of_each_area_once() {
         let areas = areas();
         let loads = loads(&areas, 16);
-        let mut ours = Ours::with_room_for(&packets(&loads));
-        let mut row = |load| Row::of(load, TIMES, &mut ours);
+        let row = |load| Row::of(load, TIMES);
         let alone = row(&loads[0]);
         assert_eq!((alone.octets, alone.records), (5, 5));
         let in_turn = row(&loads[areas.len()]);
@@ -100,7 +103,7 @@ mod tests {
         let row = row.to_string();
         assert_eq!(
             row,
-            "| a name | 7 | 5 | 30 | 20 | 1.50 | 24 | 1.25 | 272 | 192 |"
+            "| a name | 7 | 5 | 30 | 20 | 1.50 | 24 | 1.25 | 10 | 5.0 | 272 | 192 |"
         );
         let cells = |line: &str| line.matches('|').count();
         let lines: Vec<&str> = HEAD.lines().skip(1).collect();
