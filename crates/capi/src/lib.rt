@@ -6,8 +6,6 @@ use calls::cut_back;
 use calls::nest::nest_test;
 use calls::read;
 use octets::mask::mask_prefix;
-use subtlv::Call;
-use subtlv::area_call;
 use tape::Octet;
 use tape::Position;
 ghost use mathlib.Core.Path.{_≡_};
@@ -17,8 +15,7 @@ ghost use Rattle.outcome.specs.Call.{GivesNumbers};
 ghost use Rattle.registry.specs.NameCall.{nameCall};
 ghost use Rattle.calls.specs.Calls.{clearCall, cutBackCall, readCall, GivesRecord};
 ghost use Rattle.calls.specs.Nest.{nestTest, yesNo};
-ghost use Rattle.meaning.specs.AreaCall.{areaCall, walkCall, pushCall};
-ghost use Rattle.subtlv.specs.Call.{shownBy};
+ghost use Rattle.meaning.specs.AreaCall.{walkCall, pushCall};
 
 // Records of six words: the one layout of this library, so that the back end takes the choice out of all that writes.
 const USUAL: bool = false;
@@ -40,21 +37,6 @@ pub extern "C" fn wakkemosut_name(registry: u64, t: u64, out: &mut [u8], numbers
     *numbers = outcome.numbers();
 }
 
-// Either call on an area, and its outcome to `numbers`.
-fn numbered(
-    area: &[u8],
-    base: u64,
-    registry: u64,
-    tape: &mut [u64],
-    numbers: &mut [u64; 4],
-    call: Call,
-)
-    ensures { λ _. ⌜ GivesNumbers (areaCall false (shownBy call) registry (now (area .entry)) base (now (tape .entry))) (now (numbers .exit)) (now (tape .exit)) ⌝ }
-{
-    let outcome = area_call(call, &area[..], Octet(base as usize), registry, tape, USUAL);
-    *numbers = outcome.numbers();
-}
-
 // Writes the records of an area's complete entries behind those that the tape has, and the outcome to `numbers`.
 #[no_mangle]
 pub extern "C" fn wakkemosut_walk(
@@ -66,7 +48,8 @@ pub extern "C" fn wakkemosut_walk(
 )
     ensures { λ _. ⌜ GivesNumbers (walkCall false registry (now (area .entry)) base (now (tape .entry))) (now (numbers .exit)) (now (tape .exit)) ⌝ }
 {
-    numbered(area, base, registry, tape, numbers, Call::Walk)
+    let outcome = subtlv::walk(&area[..], Octet(base as usize), registry, tape, USUAL);
+    *numbers = outcome.numbers();
 }
 
 // Writes the same, and a `raw` record beside it for the octets that are left, if there are any.
@@ -80,7 +63,8 @@ pub extern "C" fn wakkemosut_push(
 )
     ensures { λ _. ⌜ GivesNumbers (pushCall false registry (now (area .entry)) base (now (tape .entry))) (now (numbers .exit)) (now (tape .exit)) ⌝ }
 {
-    numbered(area, base, registry, tape, numbers, Call::Push)
+    let outcome = subtlv::push(&area[..], Octet(base as usize), registry, tape, USUAL);
+    *numbers = outcome.numbers();
 }
 
 // Writes the header of a tape without records, and the outcome to `numbers`.

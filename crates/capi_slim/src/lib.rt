@@ -3,8 +3,6 @@ use calls::clear;
 use calls::cut_back;
 use calls::nest::nest_test;
 use calls::read;
-use subtlv::Call;
-use subtlv::area_call;
 use tape::Octet;
 use tape::Position;
 ghost use mathlib.Core.Path.{_≡_};
@@ -12,26 +10,10 @@ ghost use mathlib.Core.Bool.{true};
 ghost use Rattle.outcome.specs.Call.{GivesNumbers};
 ghost use Rattle.calls.specs.Calls.{clearCall, cutBackCall, readCall, GivesRecord};
 ghost use Rattle.calls.specs.Nest.{nestTest, yesNo};
-ghost use Rattle.meaning.specs.AreaCall.{areaCall, walkCall, pushCall};
-ghost use Rattle.subtlv.specs.Call.{shownBy};
+ghost use Rattle.meaning.specs.AreaCall.{walkCall, pushCall};
 
 // Records of four words.
 const SLIM: bool = true;
-
-// Either call on an area, and its outcome to `numbers`.
-fn numbered(
-    area: &[u8],
-    base: u64,
-    registry: u64,
-    tape: &mut [u64],
-    numbers: &mut [u64; 4],
-    call: Call,
-)
-    ensures { λ _. ⌜ GivesNumbers (areaCall true (shownBy call) registry (now (area .entry)) base (now (tape .entry))) (now (numbers .exit)) (now (tape .exit)) ⌝ }
-{
-    let outcome = area_call(call, &area[..], Octet(base as usize), registry, tape, SLIM);
-    *numbers = outcome.numbers();
-}
 
 // Writes the records of an area's complete entries behind those that the tape has, and the outcome to `numbers`.
 #[no_mangle]
@@ -44,7 +26,8 @@ pub extern "C" fn wakkemosut_slim_walk(
 )
     ensures { λ _. ⌜ GivesNumbers (walkCall true registry (now (area .entry)) base (now (tape .entry))) (now (numbers .exit)) (now (tape .exit)) ⌝ }
 {
-    numbered(area, base, registry, tape, numbers, Call::Walk)
+    let outcome = subtlv::walk(&area[..], Octet(base as usize), registry, tape, SLIM);
+    *numbers = outcome.numbers();
 }
 
 // Writes the same, and a `raw` record beside it for the octets that are left, if there are any.
@@ -58,7 +41,8 @@ pub extern "C" fn wakkemosut_slim_push(
 )
     ensures { λ _. ⌜ GivesNumbers (pushCall true registry (now (area .entry)) base (now (tape .entry))) (now (numbers .exit)) (now (tape .exit)) ⌝ }
 {
-    numbered(area, base, registry, tape, numbers, Call::Push)
+    let outcome = subtlv::push(&area[..], Octet(base as usize), registry, tape, SLIM);
+    *numbers = outcome.numbers();
 }
 
 // Writes the header of a tape without records, and the outcome to `numbers`.

@@ -3,15 +3,12 @@ use fields::Source;
 use fields::sid::sid;
 use readings::Decoded;
 use readings::Taken;
+use readings::rows::octet_and_sid;
 use registry::registries::Binding;
 use tape::Octet;
 use tape::Position;
 use tape::label::Label;
-ghost use mathlib.Core.Path.{_≡_};
-ghost use Prim.Native.Nat.{_+_, _<_, _^_};
-ghost use lib.ListN.{length};
-ghost use Rattle.meaning.specs.Table.{usual};
-ghost use Rattle.readings.specs.Reading.{Reads, readingOf, reading};
+ghost use Rattle.readings.specs.Reading.{byRow, reading, Asks, Decodes};
 
 // SID/Label (RFC 8667, sections 2.3 and 2.4.5).
 fn sid_label(
@@ -21,8 +18,8 @@ fn sid_label(
     slim: bool,
     position: Position,
 ) -> Decoded
-    requires { ⌜ (source .base .0 + length (now value) < 2 ^ 32) × (position .0 < 2 ^ 59) ⌝ }
-    ensures { λ r. ⌜ Reads slim (readingOf (source .registry) (now (value .entry)) (source .base .0) (usual 3 1 (now (value .entry)))) (now (tape .entry)) (now (tape .exit)) (position .0) r ⌝ }
+    requires { ⌜ Asks slim (byRow 3 1 (source .registry)) value (source .base) tape position ⌝ }
+    ensures { λ r. ⌜ Decodes slim (byRow 3 1 (source .registry)) value (source .base) tape position r ⌝ }
 {
     if value.len() < 3 {
         return Decoded {
@@ -39,7 +36,7 @@ fn sid_label(
     }
 }
 
-// A value by its type; type 3 is read with other SIDs.
+// A value by its type.
 pub fn binding(
     value: &[u8],
     kind: u8,
@@ -48,8 +45,8 @@ pub fn binding(
     slim: bool,
     at: Position,
 ) -> Decoded
-    requires { ⌜ (kind ≡ 3 → ⊥) × (base .0 + length (now value) < 2 ^ 32) × (at .0 < 2 ^ 59) ⌝ }
-    ensures { λ r. ⌜ Reads slim (reading 3 kind (now (value .entry)) (base .0)) (now (tape .entry)) (now (tape .exit)) (at .0) r ⌝ }
+    requires { ⌜ Asks slim (reading 3 kind) value base tape at ⌝ }
+    ensures { λ r. ⌜ Decodes slim (reading 3 kind) value base tape at r ⌝ }
 {
     let source = Source {
         registry: Binding::NUMBER as u8,
@@ -57,6 +54,7 @@ pub fn binding(
     };
     match kind {
         1 => sid_label(value, source, tape, slim, at),
+        3 => octet_and_sid(value, source, Label::ALGORITHM, tape, slim, at),
         _ => Decoded {
             taken: Taken::Nothing,
             next: at,

@@ -8,6 +8,7 @@ use readings::Taken;
 use readings::rows::ipv4;
 use readings::rows::ipv6;
 use readings::rows::number_array;
+use readings::rows::octet_and_sid;
 use registry::registries::Prefix;
 use tape::Octet;
 use tape::Position;
@@ -18,9 +19,8 @@ ghost use mathlib.Core.Bool.{true};
 ghost use Prim.Native.Nat.{_+_, _≤_, _<_, _^_};
 ghost use lib.ListN.{length};
 ghost use Rattle.octets.specs.BigEndian.{isWidth};
-ghost use Rattle.tape.specs.Laid.{Laid};
-ghost use Rattle.meaning.specs.Table.{usual};
-ghost use Rattle.readings.specs.Reading.{Reads, readingOf, reading};
+ghost use Rattle.tape.specs.Laid.{RoomFor, was, Lays};
+ghost use Rattle.readings.specs.Reading.{byRow, reading, Asks, Decodes};
 ghost use Rattle.readings.specs.Rows.{numberArray, endHead};
 
 // Administrative tags of one width (RFC 5130, sections 3.1 and 3.2).
@@ -33,8 +33,8 @@ fn tags(
     slim: bool,
     position: Position,
 ) -> Decoded
-    requires { ⌜ (isWidth width ≡ true) × (source .base .0 + length (now value) < 2 ^ 32) × (position .0 < 2 ^ 59) ⌝ }
-    ensures { λ r. ⌜ Reads slim (numberArray width 34 55 shape width (source .registry) (now (value .entry)) (source .base .0)) (now (tape .entry)) (now (tape .exit)) (position .0) r ⌝ }
+    requires { ⌜ (isWidth width ≡ true) × Asks slim (numberArray width 34 55 shape width (source .registry)) value (source .base) tape position ⌝ }
+    ensures { λ r. ⌜ Decodes slim (numberArray width 34 55 shape width (source .registry)) value (source .base) tape position r ⌝ }
 {
     number_array(
         value,
@@ -58,8 +58,8 @@ fn prefix_attributes(
     slim: bool,
     position: Position,
 ) -> Decoded
-    requires { ⌜ (source .base .0 + length (now value) < 2 ^ 32) × (position .0 < 2 ^ 59) ⌝ }
-    ensures { λ r. ⌜ Reads slim (readingOf (source .registry) (now (value .entry)) (source .base .0) (usual 1 4 (now (value .entry)))) (now (tape .entry)) (now (tape .exit)) (position .0) r ⌝ }
+    requires { ⌜ Asks slim (byRow 1 4 (source .registry)) value (source .base) tape position ⌝ }
+    ensures { λ r. ⌜ Decodes slim (byRow 1 4 (source .registry)) value (source .base) tape position r ⌝ }
 {
     if value.len() < 1 {
         return Decoded {
@@ -85,8 +85,8 @@ pub fn end_head(
     slim: bool,
     position: Position,
 ) -> Position
-    requires { ⌜ (3 ≤ length (now value)) × (source .base .0 + length (now value) < 2 ^ 32) × (position .0 < 2 ^ 59) ⌝ }
-    ensures { λ r. ⌜ Laid slim (endHead (source .registry) (now (value .entry)) (source .base .0)) (now (tape .entry)) (now (tape .exit)) (position .0) (r .0) ⌝ }
+    requires { ⌜ (3 ≤ length (now value)) × (source .base .0 + length (now value) < 2 ^ 32) × RoomFor slim (now tape) (position .0 + 2) ⌝ }
+    ensures { λ r. ⌜ Lays slim (endHead (source .registry) (was value) (source .base .0)) tape position r ⌝ }
 {
     let second = number8(value, source, Label::FLAGS, 0, tape, slim, position);
     number16(
@@ -100,7 +100,7 @@ pub fn end_head(
     )
 }
 
-// A value by its type; type 3 is read with other SIDs, type 5 holds an area of its own.
+// A value by its type; type 5 holds an area of its own.
 pub fn prefix(
     value: &[u8],
     kind: u8,
@@ -109,8 +109,8 @@ pub fn prefix(
     slim: bool,
     at: Position,
 ) -> Decoded
-    requires { ⌜ (kind ≡ 3 → ⊥) × (kind ≡ 5 → ⊥) × (base .0 + length (now value) < 2 ^ 32) × (at .0 < 2 ^ 59) ⌝ }
-    ensures { λ r. ⌜ Reads slim (reading 1 kind (now (value .entry)) (base .0)) (now (tape .entry)) (now (tape .exit)) (at .0) r ⌝ }
+    requires { ⌜ (kind ≡ 5 → ⊥) × Asks slim (reading 1 kind) value base tape at ⌝ }
+    ensures { λ r. ⌜ Decodes slim (reading 1 kind) value base tape at r ⌝ }
 {
     let source = Source {
         registry: Prefix::NUMBER as u8,
@@ -119,6 +119,7 @@ pub fn prefix(
     match kind {
         1 => tags(value, source, Shape::U32, 4, tape, slim, at),
         2 => tags(value, source, Shape::U64, 8, tape, slim, at),
+        3 => octet_and_sid(value, source, Label::ALGORITHM, tape, slim, at),
         4 => prefix_attributes(value, source, tape, slim, at),
         11 => ipv4(value, source, Label::IPV4_SOURCE_ROUTER_ID, tape, slim, at),
         12 => ipv6(value, source, Label::IPV6_SOURCE_ROUTER_ID, tape, slim, at),

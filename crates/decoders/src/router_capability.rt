@@ -14,10 +14,7 @@ use tape::Position;
 use tape::label::Label;
 use tape::shape::Shape;
 ghost use mathlib.Core.Path.{_≡_};
-ghost use Prim.Native.Nat.{_+_, _<_, _^_};
-ghost use lib.ListN.{length};
-ghost use Rattle.meaning.specs.Table.{usual};
-ghost use Rattle.readings.specs.Reading.{Reads, readingOf, reading};
+ghost use Rattle.readings.specs.Reading.{byRow, reading, Asks, Decodes};
 ghost use Rattle.readings.specs.Rows.{numberArray};
 
 // SR-Capabilities and SR Local Block (RFC 8667, sections 3.1 and 3.3): Flags | ranges.
@@ -28,8 +25,8 @@ fn flags_and_ranges(
     slim: bool,
     position: Position,
 ) -> Decoded
-    requires { ⌜ (source .base .0 + length (now value) < 2 ^ 32) × (position .0 < 2 ^ 59) ⌝ }
-    ensures { λ r. ⌜ Reads slim (readingOf (source .registry) (now (value .entry)) (source .base .0) (usual 2 2 (now (value .entry)))) (now (tape .entry)) (now (tape .exit)) (position .0) r ⌝ }
+    requires { ⌜ Asks slim (byRow 2 2 (source .registry)) value (source .base) tape position ⌝ }
+    ensures { λ r. ⌜ Decodes slim (byRow 2 2 (source .registry)) value (source .base) tape position r ⌝ }
 {
     let n = value.len();
     if n < 1 {
@@ -60,8 +57,8 @@ fn algorithms(
     slim: bool,
     position: Position,
 ) -> Decoded
-    requires { ⌜ (source .base .0 + length (now value) < 2 ^ 32) × (position .0 < 2 ^ 59) ⌝ }
-    ensures { λ r. ⌜ Reads slim (numberArray 0 41 56 0 1 (source .registry) (now (value .entry)) (source .base .0)) (now (tape .entry)) (now (tape .exit)) (position .0) r ⌝ }
+    requires { ⌜ Asks slim (numberArray 0 41 56 0 1 (source .registry)) value (source .base) tape position ⌝ }
+    ensures { λ r. ⌜ Decodes slim (numberArray 0 41 56 0 1 (source .registry)) value (source .base) tape position r ⌝ }
 {
     number_array(
         value,
@@ -85,8 +82,8 @@ fn node_msd(
     slim: bool,
     position: Position,
 ) -> Decoded
-    requires { ⌜ (source .base .0 + length (now value) < 2 ^ 32) × (position .0 < 2 ^ 59) ⌝ }
-    ensures { λ r. ⌜ Reads slim (readingOf (source .registry) (now (value .entry)) (source .base .0) (usual 2 23 (now (value .entry)))) (now (tape .entry)) (now (tape .exit)) (position .0) r ⌝ }
+    requires { ⌜ Asks slim (byRow 2 23 (source .registry)) value (source .base) tape position ⌝ }
+    ensures { λ r. ⌜ Decodes slim (byRow 2 23 (source .registry)) value (source .base) tape position r ⌝ }
 {
     let shown = msds(value, source, tape, slim, position);
     let covered = shown.covered;
@@ -105,8 +102,8 @@ fn preference(
     slim: bool,
     position: Position,
 ) -> Decoded
-    requires { ⌜ (source .base .0 + length (now value) < 2 ^ 32) × (position .0 < 2 ^ 59) ⌝ }
-    ensures { λ r. ⌜ Reads slim (readingOf (source .registry) (now (value .entry)) (source .base .0) (usual 2 24 (now (value .entry)))) (now (tape .entry)) (now (tape .exit)) (position .0) r ⌝ }
+    requires { ⌜ Asks slim (byRow 2 24 (source .registry)) value (source .base) tape position ⌝ }
+    ensures { λ r. ⌜ Decodes slim (byRow 2 24 (source .registry)) value (source .base) tape position r ⌝ }
 {
     if value.len() < 1 {
         return Decoded {
@@ -130,8 +127,8 @@ pub fn router_capability(
     slim: bool,
     at: Position,
 ) -> Decoded
-    requires { ⌜ (kind ≡ 25 → ⊥) × (base .0 + length (now value) < 2 ^ 32) × (at .0 < 2 ^ 59) ⌝ }
-    ensures { λ r. ⌜ Reads slim (reading 2 kind (now (value .entry)) (base .0)) (now (tape .entry)) (now (tape .exit)) (at .0) r ⌝ }
+    requires { ⌜ (kind ≡ 25 → ⊥) × Asks slim (reading 2 kind) value base tape at ⌝ }
+    ensures { λ r. ⌜ Decodes slim (reading 2 kind) value base tape at r ⌝ }
 {
     let source = Source {
         registry: RouterCapability::NUMBER as u8,

@@ -7,10 +7,7 @@ use registry::registries::Srv6Sid;
 use tape::Octet;
 use tape::Position;
 use tape::label::Label;
-ghost use Prim.Native.Nat.{_+_, _<_, _^_};
-ghost use lib.ListN.{length};
-ghost use Rattle.meaning.specs.Table.{usual};
-ghost use Rattle.readings.specs.Reading.{Reads, readingOf, reading};
+ghost use Rattle.readings.specs.Reading.{byRow, reading, Asks, Decodes};
 
 // SRv6 SID Structure (RFC 9352, section 9): LB Length | LN Length | Fun. Length | Arg. Length.
 fn sid_structure(
@@ -20,8 +17,8 @@ fn sid_structure(
     slim: bool,
     position: Position,
 ) -> Decoded
-    requires { ⌜ (source .base .0 + length (now value) < 2 ^ 32) × (position .0 < 2 ^ 59) ⌝ }
-    ensures { λ r. ⌜ Reads slim (readingOf (source .registry) (now (value .entry)) (source .base .0) (usual 4 1 (now (value .entry)))) (now (tape .entry)) (now (tape .exit)) (position .0) r ⌝ }
+    requires { ⌜ Asks slim (byRow 4 1 (source .registry)) value (source .base) tape position ⌝ }
+    ensures { λ r. ⌜ Decodes slim (byRow 4 1 (source .registry)) value (source .base) tape position r ⌝ }
 {
     if value.len() < 4 {
         return Decoded {
@@ -64,8 +61,8 @@ pub fn srv6_sid(
     slim: bool,
     at: Position,
 ) -> Decoded
-    requires { ⌜ (base .0 + length (now value) < 2 ^ 32) × (at .0 < 2 ^ 59) ⌝ }
-    ensures { λ r. ⌜ Reads slim (reading 4 kind (now (value .entry)) (base .0)) (now (tape .entry)) (now (tape .exit)) (at .0) r ⌝ }
+    requires { ⌜ Asks slim (reading 4 kind) value base tape at ⌝ }
+    ensures { λ r. ⌜ Decodes slim (reading 4 kind) value base tape at r ⌝ }
 {
     let source = Source {
         registry: Srv6Sid::NUMBER as u8,

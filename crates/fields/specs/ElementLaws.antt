@@ -1,6 +1,6 @@
 -- Elements of arrays, out of their parts.
 use mathlib.Core.Bool.{Bool}
-use mathlib.Core.Path.{_≡_}
+use mathlib.Core.Path.{_≡_, ap}
 use mathlib.Core.List.{List}
 use Prim.Native.Nat.{ℕ, _+_, _≤_}
 use native.Mathlib.Nat.{add-zero, add-assoc}
@@ -17,7 +17,6 @@ use Rattle.meaning.specs.Label
 use Rattle.meaning.specs.Tree.{content}
 use Rattle.meaning.specs.Field.{msds, ranges}
 use Rattle.meaning.specs.Array.{elementTrees}
-use Rattle.meaning.specs.SidLaws.{size-sid-le}
 use Rattle.fields.specs.Shows.{sidWidth, sidNumber}
 use Rattle.fields.specs.ShowsLaws.{sid-shown}
 
@@ -45,7 +44,7 @@ module _ (registry base : ℕ) (p : List ℕ) {slim : Bool} {t u v w : List ℕ}
       (laid-then (rw (add-zero base) at size) (rw (sid-shown p 5 _ registry base (omega arith)) sid))
       put
 
--- a range has at most 3 records
-pub range-size : (registry base : ℕ) (p : List ℕ) → size (elementTrees ranges registry p base) ≤ 3
+-- a range has 3 records
+pub range-size : (registry base : ℕ) (p : List ℕ) → 8 ≤ length p → size (elementTrees ranges registry p base) ≡ 3
 unfolding elementTrees _⧺_
-range-size registry base p = omega (arith, size-sid-le Label.rangeSid registry p base 5)
+range-size registry base p long = omega (arith, ap size (sid-shown p 5 Label.rangeSid registry base (omega arith)))

@@ -13,18 +13,18 @@ use tape::label::Label;
 use tape::shape::Shape;
 ghost use mathlib.Core.Path.{_≡_};
 ghost use mathlib.Core.Bool.{true};
-ghost use Prim.Native.Nat.{_+_, _*_, _≤_, _<_, _^_};
+ghost use Prim.Native.Nat.{_+_, _≤_, _<_, _^_};
 ghost use lib.ListN.{length, drop};
 ghost use Rattle.octets.specs.BigEndian.{isWidth};
 ghost use Rattle.tape.specs.Tape.{putAt};
 ghost use Rattle.tape.specs.Record.{containerRecord};
-ghost use Rattle.tape.specs.Laid.{Laid};
+ghost use Rattle.tape.specs.Laid.{Room, RoomFor, was, Lays};
 ghost use Rattle.meaning.specs.Tree.{content};
 ghost use Rattle.meaning.specs.Cut.{pieces, total};
 ghost use Rattle.meaning.specs.Frame.{whole, rangeLength};
 ghost use Rattle.meaning.specs.Field.{msds as msdElement, ranges as rangeElement};
 ghost use Rattle.meaning.specs.Array.{elementTrees};
-ghost use Rattle.fields.specs.Shows.{Shows, arrayBy, numberTrees};
+ghost use Rattle.fields.specs.Shows.{LaysUpTo, numbersIn, msdsIn, rangesIn};
 
 // Lays a container over `width` octets, whose children stand behind it, up to position `next`.
 pub fn container(
@@ -37,8 +37,8 @@ pub fn container(
     position: Position,
     next: Position,
 )
-    requires { ⌜ (source .base .0 + width < 2 ^ 32) × (position .0 < 2 ^ 60) ⌝ }
-    ensures { λ _. ⌜ now (tape .exit) ≡ putAt slim (now (tape .entry)) (position .0) (containerRecord (content label shape (source .registry) (source .base .0) (source .base .0 + width) 0) (position .0 + 1) (next .0)) ⌝ }
+    requires { ⌜ (source .base .0 + width < 2 ^ 32) × RoomFor slim (now tape) (next .0) × (position .0 < next .0) ⌝ }
+    ensures { λ _. ⌜ now (tape .exit) ≡ putAt slim (was tape) (position .0) (containerRecord (content label shape (source .registry) (source .base .0) (source .base .0 + width) 0) (position .0 + 1) (next .0)) ⌝ }
 {
     let start = source.base.0;
     let content = Content {
@@ -64,8 +64,8 @@ pub fn numbers(
     slim: bool,
     position: Position,
 ) -> Shown
-    requires { ⌜ (isWidth width ≡ true) × (source .base .0 + length (now octets) < 2 ^ 32) × (position .0 + 3 * length (now octets) + 3 < 2 ^ 60) ⌝ }
-    ensures { λ r. ⌜ Shows slim (total (pieces (whole width) (now (octets .entry)))) (arrayBy array (source .registry) (numberTrees label shape width (source .registry)) (source .base .0) (pieces (whole width) (now (octets .entry)))) (now (tape .entry)) (now (tape .exit)) (position .0) r ⌝ }
+    requires { ⌜ (isWidth width ≡ true) × Room slim (numbersIn array label shape width (source .registry) (now octets) (source .base .0)) (length (now octets)) (source .base .0) (now tape) (position .0) ⌝ }
+    ensures { λ r. ⌜ LaysUpTo slim (total (pieces (whole width) (was octets))) (numbersIn array label shape width (source .registry) (was octets) (source .base .0)) tape position r ⌝ }
 {
     let n = octets.len();
     let mut at = 0;
@@ -80,8 +80,8 @@ pub fn numbers(
 
 // Lays an MSD: its type and its value.
 fn msd(octets: &[u8], source: Source, tape: &mut [u64], slim: bool, position: Position) -> Position
-    requires { ⌜ (length (now octets) ≡ 2) × (source .base .0 + 2 < 2 ^ 32) × (position .0 + 3 < 2 ^ 60) ⌝ }
-    ensures { λ r. ⌜ Laid slim (elementTrees msdElement (source .registry) (now (octets .entry)) (source .base .0)) (now (tape .entry)) (now (tape .exit)) (position .0) (r .0) ⌝ }
+    requires { ⌜ (length (now octets) ≡ 2) × (source .base .0 + 2 < 2 ^ 32) × RoomFor slim (now tape) (position .0 + 3) ⌝ }
+    ensures { λ r. ⌜ Lays slim (elementTrees msdElement (source .registry) (was octets) (source .base .0)) tape position r ⌝ }
 {
     let first = Position(position.0 + 1);
     let second = number8(octets, source, Label::MSD_TYPE, 0, tape, slim, first);
@@ -107,8 +107,8 @@ pub fn msds(
     slim: bool,
     position: Position,
 ) -> Shown
-    requires { ⌜ (source .base .0 + length (now octets) < 2 ^ 32) × (position .0 + 3 * length (now octets) + 3 < 2 ^ 60) ⌝ }
-    ensures { λ r. ⌜ Shows slim (total (pieces (whole 2) (now (octets .entry)))) (arrayBy 42 (source .registry) (elementTrees msdElement (source .registry)) (source .base .0) (pieces (whole 2) (now (octets .entry)))) (now (tape .entry)) (now (tape .exit)) (position .0) r ⌝ }
+    requires { ⌜ Room slim (msdsIn (source .registry) (now octets) (source .base .0)) (length (now octets)) (source .base .0) (now tape) (position .0) ⌝ }
+    ensures { λ r. ⌜ LaysUpTo slim (total (pieces (whole 2) (was octets))) (msdsIn (source .registry) (was octets) (source .base .0)) tape position r ⌝ }
 {
     let n = octets.len();
     let registry = source.registry;
@@ -137,9 +137,9 @@ pub fn msds(
 }
 
 // The octets of the complete range in front: 3 of size, sub-type 1, length 3 or 4, and that many; 0 where none stands there.
-fn range_length(octets: &[u8], at: usize) -> usize
+pub fn range_length(octets: &[u8], at: usize) -> usize
     requires { ⌜ at ≤ length (now octets) ⌝ }
-    ensures { λ r. ⌜ r ≡ rangeLength (drop at (now (octets .entry))) ⌝ }
+    ensures { λ r. ⌜ r ≡ rangeLength (drop at (was octets)) ⌝ }
 {
     let left = octets.len() - at;
     if left < 5 {
@@ -166,8 +166,8 @@ fn range(
     slim: bool,
     position: Position,
 ) -> Position
-    requires { ⌜ (8 ≤ length (now octets)) × (source .base .0 + length (now octets) < 2 ^ 32) × (position .0 + 3 < 2 ^ 60) ⌝ }
-    ensures { λ r. ⌜ Laid slim (elementTrees rangeElement (source .registry) (now (octets .entry)) (source .base .0)) (now (tape .entry)) (now (tape .exit)) (position .0) (r .0) ⌝ }
+    requires { ⌜ (8 ≤ length (now octets)) × (source .base .0 + length (now octets) < 2 ^ 32) × RoomFor slim (now tape) (position .0 + 3) ⌝ }
+    ensures { λ r. ⌜ Lays slim (elementTrees rangeElement (source .registry) (was octets) (source .base .0)) tape position r ⌝ }
 {
     let n = octets.len();
     let first = Position(position.0 + 1);
@@ -195,8 +195,8 @@ pub fn ranges(
     slim: bool,
     position: Position,
 ) -> Shown
-    requires { ⌜ (source .base .0 + length (now octets) < 2 ^ 32) × (position .0 + 3 * length (now octets) + 3 < 2 ^ 60) ⌝ }
-    ensures { λ r. ⌜ Shows slim (total (pieces rangeLength (now (octets .entry)))) (arrayBy 40 (source .registry) (elementTrees rangeElement (source .registry)) (source .base .0) (pieces rangeLength (now (octets .entry)))) (now (tape .entry)) (now (tape .exit)) (position .0) r ⌝ }
+    requires { ⌜ Room slim (rangesIn (source .registry) (now octets) (source .base .0)) (length (now octets)) (source .base .0) (now tape) (position .0) ⌝ }
+    ensures { λ r. ⌜ LaysUpTo slim (total (pieces rangeLength (was octets))) (rangesIn (source .registry) (was octets) (source .base .0)) tape position r ⌝ }
 {
     let registry = source.registry;
     let base = source.base.0;

@@ -16,7 +16,7 @@ ghost use Prim.Native.Nat.{_+_, _/_, _%_, _≤_, _<_, _^_};
 ghost use lib.ListN.{length, getD};
 ghost use Rattle.octets.specs.BigEndian.{bigEndian, isWidth};
 ghost use Rattle.tape.specs.Forest.{leaf, none};
-ghost use Rattle.tape.specs.Laid.{Laid};
+ghost use Rattle.tape.specs.Laid.{RoomFor, was, Lays};
 ghost use Rattle.meaning.specs.Tree.{content};
 
 // Lays a leaf over the `width` octets from `at` on.
@@ -31,8 +31,8 @@ pub fn part(
     slim: bool,
     position: Position,
 ) -> Position
-    requires { ⌜ (source .base .0 + at + width < 2 ^ 32) × (position .0 < 2 ^ 60) ⌝ }
-    ensures { λ r. ⌜ Laid slim (leaf (content label shape (source .registry) (source .base .0 + at) (source .base .0 + at + width) number) none) (now (tape .entry)) (now (tape .exit)) (position .0) (r .0) ⌝ }
+    requires { ⌜ (source .base .0 + at + width < 2 ^ 32) × RoomFor slim (now tape) (position .0 + 1) ⌝ }
+    ensures { λ r. ⌜ Lays slim (leaf (content label shape (source .registry) (source .base .0 + at) (source .base .0 + at + width) number) none) tape position r ⌝ }
 {
     let start = source.base.0 + at;
     let content = Content {
@@ -58,8 +58,8 @@ pub fn number(
     slim: bool,
     position: Position,
 ) -> Position
-    requires { ⌜ (isWidth width ≡ true) × (at + width ≤ length (now value)) × (source .base .0 + length (now value) < 2 ^ 32) × (position .0 < 2 ^ 60) ⌝ }
-    ensures { λ r. ⌜ Laid slim (leaf (content label shape (source .registry) (source .base .0 + at) (source .base .0 + at + width) (bigEndian (now (value .entry)) at width)) none) (now (tape .entry)) (now (tape .exit)) (position .0) (r .0) ⌝ }
+    requires { ⌜ (isWidth width ≡ true) × (at + width ≤ length (now value)) × (source .base .0 + length (now value) < 2 ^ 32) × RoomFor slim (now tape) (position .0 + 1) ⌝ }
+    ensures { λ r. ⌜ Lays slim (leaf (content label shape (source .registry) (source .base .0 + at) (source .base .0 + at + width) (bigEndian (was value) at width)) none) tape position r ⌝ }
 {
     let number = read_be(value, at, width);
     part(
@@ -85,8 +85,8 @@ pub fn number8(
     slim: bool,
     position: Position,
 ) -> Position
-    requires { ⌜ (at + 1 ≤ length (now value)) × (source .base .0 + length (now value) < 2 ^ 32) × (position .0 < 2 ^ 60) ⌝ }
-    ensures { λ r. ⌜ Laid slim (leaf (content label 0 (source .registry) (source .base .0 + at) (source .base .0 + at + 1) (bigEndian (now (value .entry)) at 1)) none) (now (tape .entry)) (now (tape .exit)) (position .0) (r .0) ⌝ }
+    requires { ⌜ (at + 1 ≤ length (now value)) × (source .base .0 + length (now value) < 2 ^ 32) × RoomFor slim (now tape) (position .0 + 1) ⌝ }
+    ensures { λ r. ⌜ Lays slim (leaf (content label 0 (source .registry) (source .base .0 + at) (source .base .0 + at + 1) (bigEndian (was value) at 1)) none) tape position r ⌝ }
 {
     let number = octet(value, at) as u64;
     part(
@@ -112,8 +112,8 @@ pub fn number16(
     slim: bool,
     position: Position,
 ) -> Position
-    requires { ⌜ (at + 2 ≤ length (now value)) × (source .base .0 + length (now value) < 2 ^ 32) × (position .0 < 2 ^ 60) ⌝ }
-    ensures { λ r. ⌜ Laid slim (leaf (content label 1 (source .registry) (source .base .0 + at) (source .base .0 + at + 2) (bigEndian (now (value .entry)) at 2)) none) (now (tape .entry)) (now (tape .exit)) (position .0) (r .0) ⌝ }
+    requires { ⌜ (at + 2 ≤ length (now value)) × (source .base .0 + length (now value) < 2 ^ 32) × RoomFor slim (now tape) (position .0 + 1) ⌝ }
+    ensures { λ r. ⌜ Lays slim (leaf (content label 1 (source .registry) (source .base .0 + at) (source .base .0 + at + 2) (bigEndian (was value) at 2)) none) tape position r ⌝ }
 {
     let number = read_be_u16(value, at) as u64;
     part(
@@ -139,8 +139,8 @@ pub fn number24(
     slim: bool,
     position: Position,
 ) -> Position
-    requires { ⌜ (at + 3 ≤ length (now value)) × (source .base .0 + length (now value) < 2 ^ 32) × (position .0 < 2 ^ 60) ⌝ }
-    ensures { λ r. ⌜ Laid slim (leaf (content label 2 (source .registry) (source .base .0 + at) (source .base .0 + at + 3) (bigEndian (now (value .entry)) at 3)) none) (now (tape .entry)) (now (tape .exit)) (position .0) (r .0) ⌝ }
+    requires { ⌜ (at + 3 ≤ length (now value)) × (source .base .0 + length (now value) < 2 ^ 32) × RoomFor slim (now tape) (position .0 + 1) ⌝ }
+    ensures { λ r. ⌜ Lays slim (leaf (content label 2 (source .registry) (source .base .0 + at) (source .base .0 + at + 3) (bigEndian (was value) at 3)) none) tape position r ⌝ }
 {
     let number = read_be_u24(value, at) as u64;
     part(
@@ -166,8 +166,8 @@ pub fn number32(
     slim: bool,
     position: Position,
 ) -> Position
-    requires { ⌜ (at + 4 ≤ length (now value)) × (source .base .0 + length (now value) < 2 ^ 32) × (position .0 < 2 ^ 60) ⌝ }
-    ensures { λ r. ⌜ Laid slim (leaf (content label 2 (source .registry) (source .base .0 + at) (source .base .0 + at + 4) (bigEndian (now (value .entry)) at 4)) none) (now (tape .entry)) (now (tape .exit)) (position .0) (r .0) ⌝ }
+    requires { ⌜ (at + 4 ≤ length (now value)) × (source .base .0 + length (now value) < 2 ^ 32) × RoomFor slim (now tape) (position .0 + 1) ⌝ }
+    ensures { λ r. ⌜ Lays slim (leaf (content label 2 (source .registry) (source .base .0 + at) (source .base .0 + at + 4) (bigEndian (was value) at 4)) none) tape position r ⌝ }
 {
     let number = read_be_u32(value, at) as u64;
     part(
@@ -193,8 +193,8 @@ pub fn flag(
     slim: bool,
     position: Position,
 ) -> Position
-    requires { ⌜ (1 ≤ mask) × (1 ≤ length (now value)) × (source .base .0 + length (now value) < 2 ^ 32) × (position .0 < 2 ^ 60) ⌝ }
-    ensures { λ r. ⌜ Laid slim (leaf (content label 0 (source .registry) (source .base .0) (source .base .0 + 1) (getD (now (value .entry)) 0 0 / mask % 2)) none) (now (tape .entry)) (now (tape .exit)) (position .0) (r .0) ⌝ }
+    requires { ⌜ (1 ≤ mask) × (1 ≤ length (now value)) × (source .base .0 + length (now value) < 2 ^ 32) × RoomFor slim (now tape) (position .0 + 1) ⌝ }
+    ensures { λ r. ⌜ Lays slim (leaf (content label 0 (source .registry) (source .base .0) (source .base .0 + 1) (getD (was value) 0 0 / mask % 2)) none) tape position r ⌝ }
 {
     let bit = value[0] / mask % 2;
     let start = source.base.0;

@@ -10,8 +10,9 @@ ghost use mathlib.Core.Path.{_≡_};
 ghost use Prim.Native.Nat.{_+_, _≤_, _<_, _^_};
 ghost use lib.ListN.{length};
 ghost use Rattle.tape.specs.Forest.{leaf, none};
+ghost use Rattle.tape.specs.Laid.{RoomFor, was};
 ghost use Rattle.meaning.specs.Tree.{content};
-ghost use Rattle.fields.specs.Shows.{Shows, sidNumber, sidWidth};
+ghost use Rattle.fields.specs.Shows.{LaysUpTo, sidNumber, sidWidth};
 
 // A SID's number and its width.
 struct Numbered {
@@ -22,7 +23,7 @@ struct Numbered {
 // The SID that begins at `at`: 32 bits where 4 octets are left or more, otherwise the low 20 bits of 3.
 fn read_sid(value: &[u8], at: usize) -> Numbered
     requires { ⌜ at + 3 ≤ length (now value) ⌝ }
-    ensures { λ r. ⌜ (r .number ≡ sidNumber (now (value .entry)) at) × (r .width ≡ sidWidth (now (value .entry)) at) ⌝ }
+    ensures { λ r. ⌜ (r .number ≡ sidNumber (was value) at) × (r .width ≡ sidWidth (was value) at) ⌝ }
 {
     if at + 4 <= value.len() {
         return Numbered {
@@ -46,8 +47,8 @@ pub fn sid(
     slim: bool,
     position: Position,
 ) -> Shown
-    requires { ⌜ (at + 3 ≤ length (now value)) × (source .base .0 + length (now value) < 2 ^ 32) × (position .0 < 2 ^ 60) ⌝ }
-    ensures { λ r. ⌜ Shows slim (at + sidWidth (now (value .entry)) at) (leaf (content label 2 (source .registry) (source .base .0 + at) (source .base .0 + at + sidWidth (now (value .entry)) at) (sidNumber (now (value .entry)) at)) none) (now (tape .entry)) (now (tape .exit)) (position .0) r ⌝ }
+    requires { ⌜ (at + 3 ≤ length (now value)) × (source .base .0 + length (now value) < 2 ^ 32) × RoomFor slim (now tape) (position .0 + 1) ⌝ }
+    ensures { λ r. ⌜ LaysUpTo slim (at + sidWidth (was value) at) (leaf (content label 2 (source .registry) (source .base .0 + at) (source .base .0 + at + sidWidth (was value) at) (sidNumber (was value) at)) none) tape position r ⌝ }
 {
     let sid = read_sid(value, at);
     let width = sid.width;

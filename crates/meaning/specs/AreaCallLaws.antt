@@ -23,7 +23,7 @@ use Rattle.tape.specs.TapeLaws.{length-store}
 use Rattle.tape.specs.Forest.{Forest, size, flat}
 use Rattle.tape.specs.Near.{Near}
 use Rattle.tape.specs.Laid.{Laid}
-use Rattle.tape.specs.LaidLaws.{laid-length, laid-load, laid-other}
+use Rattle.tape.specs.LaidLaws.{store-room, laid-length, laid-load, laid-other}
 use Rattle.tape.specs.LoadLaws.{load-with-used, used-with-used}
 use Rattle.meaning.specs.Frame.{covered}
 use Rattle.meaning.specs.Value.{Walk}
@@ -35,7 +35,7 @@ use Rattle.meaning.specs.AreaCall.{longest, furthest, appended, shown, f
 module _ (slim : Bool) (t : List ℕ) (trees : Forest) (header : InOrder slim t) (fits : size trees ≤ room slim t - used t) where
   -- they are laid behind the used records
   pub laid : Laid slim trees t (store slim t (used t) (flat (used t) trees)) (used t) (used t + size trees)
-  laid = record { place = refl; words = refl }
+  laid = record { place = refl; words = refl; same = store-room slim t (used t) (flat (used t) trees) refl }
 
   -- where there is room
   pub inside : used t + size trees ≤ room slim t

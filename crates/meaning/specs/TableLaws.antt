@@ -19,7 +19,8 @@ abbrev pub NoneOf : ℕ → List ℕ → Type 0
 NoneOf t [] = Unit {0}
 NoneOf t (x ∷ xs) = (t ≡ x → ⊥) × NoneOf t xs
 
-unlisted : (registry t n : ℕ) (rows : List Row) → NoneOf t (typesOf registry rows) → fieldsOf rows registry t n ≡ []
+-- rows that do not list a type give it no fields
+pub unlisted : (registry t n : ℕ) (rows : List Row) → NoneOf t (typesOf registry rows) → fieldsOf rows registry t n ≡ []
 unfolding fieldsOf
 unlisted registry t n [] x = refl
 unlisted registry t n (row registry′ t′ least fields ∷ rows) x = go (eqb registry registry′) (leb least n) x (λ y. unlisted registry t n rows y)

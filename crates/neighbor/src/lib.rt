@@ -13,6 +13,7 @@ use readings::Taken;
 use readings::rows::flag_and_number;
 use readings::rows::ipv4;
 use readings::rows::ipv6;
+use readings::rows::octet_and_sid;
 use readings::rows::one_number24;
 use readings::rows::one_number32;
 use registry::registries::Neighbor;
@@ -23,10 +24,11 @@ use tape::shape::Shape;
 ghost use mathlib.Core.Path.{_≡_};
 ghost use Prim.Native.Nat.{_+_, _≤_, _<_, _^_};
 ghost use lib.ListN.{length};
-ghost use Rattle.tape.specs.Laid.{Laid};
-ghost use Rattle.meaning.specs.Table.{usual};
-ghost use Rattle.readings.specs.Reading.{Reads, readingOf, reading};
+ghost use Rattle.tape.specs.Laid.{RoomFor, was, Lays};
+ghost use Rattle.readings.specs.Reading.{byRow, reading, Asks, Decodes};
 ghost use Rattle.readings.specs.Rows.{systemId, endXHead};
+
+pub mod alone;
 
 // Link local and remote identifiers (RFC 5307, section 1.1).
 fn link_identifiers(
@@ -36,8 +38,8 @@ fn link_identifiers(
     slim: bool,
     position: Position,
 ) -> Decoded
-    requires { ⌜ (source .base .0 + length (now value) < 2 ^ 32) × (position .0 < 2 ^ 59) ⌝ }
-    ensures { λ r. ⌜ Reads slim (readingOf (source .registry) (now (value .entry)) (source .base .0) (usual 0 4 (now (value .entry)))) (now (tape .entry)) (now (tape .exit)) (position .0) r ⌝ }
+    requires { ⌜ Asks slim (byRow 0 4 (source .registry)) value (source .base) tape position ⌝ }
+    ensures { λ r. ⌜ Decodes slim (byRow 0 4 (source .registry)) value (source .base) tape position r ⌝ }
 {
     if value.len() < 8 {
         return Decoded {
@@ -77,8 +79,8 @@ fn unreserved_bandwidth(
     slim: bool,
     position: Position,
 ) -> Decoded
-    requires { ⌜ (source .base .0 + length (now value) < 2 ^ 32) × (position .0 < 2 ^ 59) ⌝ }
-    ensures { λ r. ⌜ Reads slim (readingOf (source .registry) (now (value .entry)) (source .base .0) (usual 0 11 (now (value .entry)))) (now (tape .entry)) (now (tape .exit)) (position .0) r ⌝ }
+    requires { ⌜ Asks slim (byRow 0 11 (source .registry)) value (source .base) tape position ⌝ }
+    ensures { λ r. ⌜ Decodes slim (byRow 0 11 (source .registry)) value (source .base) tape position r ⌝ }
 {
     if value.len() < 32 {
         return Decoded {
@@ -113,8 +115,8 @@ fn lan_adj_sid(
     slim: bool,
     position: Position,
 ) -> Decoded
-    requires { ⌜ (source .base .0 + length (now value) < 2 ^ 32) × (position .0 < 2 ^ 59) ⌝ }
-    ensures { λ r. ⌜ Reads slim (readingOf (source .registry) (now (value .entry)) (source .base .0) (usual 0 32 (now (value .entry)))) (now (tape .entry)) (now (tape .exit)) (position .0) r ⌝ }
+    requires { ⌜ Asks slim (byRow 0 32 (source .registry)) value (source .base) tape position ⌝ }
+    ensures { λ r. ⌜ Decodes slim (byRow 0 32 (source .registry)) value (source .base) tape position r ⌝ }
 {
     if value.len() < 11 {
         return Decoded {
@@ -152,8 +154,8 @@ fn min_max_delay(
     slim: bool,
     position: Position,
 ) -> Decoded
-    requires { ⌜ (source .base .0 + length (now value) < 2 ^ 32) × (position .0 < 2 ^ 59) ⌝ }
-    ensures { λ r. ⌜ Reads slim (readingOf (source .registry) (now (value .entry)) (source .base .0) (usual 0 34 (now (value .entry)))) (now (tape .entry)) (now (tape .exit)) (position .0) r ⌝ }
+    requires { ⌜ Asks slim (byRow 0 34 (source .registry)) value (source .base) tape position ⌝ }
+    ensures { λ r. ⌜ Decodes slim (byRow 0 34 (source .registry)) value (source .base) tape position r ⌝ }
 {
     if value.len() < 8 {
         return Decoded {
@@ -179,8 +181,8 @@ pub fn end_x_head(
     slim: bool,
     position: Position,
 ) -> Position
-    requires { ⌜ (at + 5 ≤ length (now value)) × (source .base .0 + length (now value) < 2 ^ 32) × (position .0 < 2 ^ 59 + 1) ⌝ }
-    ensures { λ r. ⌜ Laid slim (endXHead (source .registry) (now (value .entry)) (source .base .0) at) (now (tape .entry)) (now (tape .exit)) (position .0) (r .0) ⌝ }
+    requires { ⌜ (at + 5 ≤ length (now value)) × (source .base .0 + length (now value) < 2 ^ 32) × RoomFor slim (now tape) (position .0 + 4) ⌝ }
+    ensures { λ r. ⌜ Lays slim (endXHead (source .registry) (was value) (source .base .0) at) tape position r ⌝ }
 {
     let second = number8(value, source, Label::FLAGS, at, tape, slim, position);
     let third = number8(value, source, Label::ALGORITHM, at + 1, tape, slim, second);
@@ -204,8 +206,8 @@ pub fn system_id(
     slim: bool,
     position: Position,
 ) -> Position
-    requires { ⌜ (source .base .0 + width < 2 ^ 32) × (position .0 < 2 ^ 60) ⌝ }
-    ensures { λ r. ⌜ Laid slim (systemId width (source .registry) (source .base .0)) (now (tape .entry)) (now (tape .exit)) (position .0) (r .0) ⌝ }
+    requires { ⌜ (source .base .0 + width < 2 ^ 32) × RoomFor slim (now tape) (position .0 + 1) ⌝ }
+    ensures { λ r. ⌜ Lays slim (systemId width (source .registry) (source .base .0)) tape position r ⌝ }
 {
     if width == 0 {
         return position;
@@ -223,7 +225,7 @@ pub fn system_id(
     )
 }
 
-// A value by its type; type 31 is read with other SIDs, the types 43 and 44 hold an area of their own.
+// A value by its type; the types 43 and 44 hold an area of their own.
 pub fn neighbor(
     value: &[u8],
     kind: u8,
@@ -232,8 +234,8 @@ pub fn neighbor(
     slim: bool,
     at: Position,
 ) -> Decoded
-    requires { ⌜ (kind ≡ 31 → ⊥) × (kind ≡ 43 → ⊥) × (kind ≡ 44 → ⊥) × (base .0 + length (now value) < 2 ^ 32) × (at .0 < 2 ^ 59) ⌝ }
-    ensures { λ r. ⌜ Reads slim (reading 0 kind (now (value .entry)) (base .0)) (now (tape .entry)) (now (tape .exit)) (at .0) r ⌝ }
+    requires { ⌜ (kind ≡ 43 → ⊥) × (kind ≡ 44 → ⊥) × Asks slim (reading 0 kind) value base tape at ⌝ }
+    ensures { λ r. ⌜ Decodes slim (reading 0 kind) value base tape at r ⌝ }
 {
     let source = Source {
         registry: Neighbor::NUMBER as u8,
@@ -257,6 +259,7 @@ pub fn neighbor(
         12 => ipv6(value, source, Label::IPV6_INTERFACE_ADDRESS, tape, slim, at),
         13 => ipv6(value, source, Label::IPV6_NEIGHBOR_ADDRESS, tape, slim, at),
         18 => one_number24(value, source, Label::TE_DEFAULT_METRIC, 0, tape, slim, at),
+        31 => octet_and_sid(value, source, Label::WEIGHT, tape, slim, at),
         32 => lan_adj_sid(value, source, tape, slim, at),
         33 => flag_and_number(value, source, Label::DELAY, tape, slim, at),
         34 => min_max_delay(value, source, tape, slim, at),

@@ -2,3 +2,4 @@ pub mod Reading
 pub mod ReadingLaws
 pub mod Rows
 pub mod RowsLaws
+pub mod Plain

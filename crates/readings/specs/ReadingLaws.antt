@@ -6,6 +6,7 @@ use Prim.Native.Nat.{ℕ, _≤_, _<_}
 use lib.Dec.{leb}
 use lib.ListN.{length}
 use borrow.Author.Tests.{le-leb, lt-leb}
+use Rattle.tape.specs.Laid.{Room}
 use Rattle.tape.specs.LaidLaws.{laid-none}
 use Rattle.tape.specs.declared.Position.{Position}
 use Rattle.meaning.specs.Field.{Field}
@@ -51,10 +52,22 @@ module _ (registry k r : ℕ) (v : List ℕ) (base : ℕ) (row : OneRow registry
       → Reads slim (readingOf r v base (fieldsIn table registry k)) t u at d → Reads slim (readingOf r v base (usual registry k v)) t u at d
   row-long long h = reads-as (row-fields long) h
 
+  -- the room that its fields have
+  pub row-room : {slim : Bool} {n at : ℕ} {t : List ℕ} → leastIn table registry k ≤ length v → Room slim (readingOf r v base (usual registry k v) .found) n base t at → Room slim (readingOf r v base (fieldsIn table registry k) .found) n base t at
+  row-room long room = rw (row-fields long) at room
+
 -- a value of type k
 pub of-type : (registry k kind : ℕ) (v : List ℕ) (base : ℕ) {slim : Bool} {t u : List ℕ} {at : ℕ} {d : Decoded} → kind ≡ k
     → Reads slim (readingOf registry v base (usual registry k v)) t u at d → Reads slim (reading registry kind v base) t u at d
 of-type registry k kind v base is h = reads-as (ap (λ (n : ℕ). reading registry n v base) is) h
+
+-- the room that a reading by the row of type k has
+pub asks-row : (registry k : ℕ) (v : List ℕ) (base : ℕ) {slim : Bool} {kind n at : ℕ} {t : List ℕ} → kind ≡ k → Room slim (reading registry kind v base .found) n base t at → Room slim (readingOf registry v base (usual registry k v) .found) n base t at
+asks-row registry k v base is room = rw is at room
+
+pub asks-given : (registry k : ℕ) (v : List ℕ) (base : ℕ) → OneRow registry k v → {slim : Bool} {kind n at : ℕ} {t : List ℕ} → kind ≡ k → Room slim (reading registry kind v base .found) n base t at
+    → Room slim (given (leastIn table registry k) v (readingOf registry v base (fieldsIn table registry k)) .found) n base t at
+asks-given registry k v base row is room = rw (row-is registry k registry v base row) at (asks-row registry k v base is room)
 
 -- a type that the table does not list
 pub of-unknown : (registry kind : ℕ) (v : List ℕ) (base : ℕ) {slim : Bool} {t : List ℕ} {at : Position} → NoneOf kind (typesOf registry table)

@@ -5,15 +5,13 @@ use Prim.Native.Nat.{ℕ, _+_, _/_, _%_}
 use lib.Dec.{eqb}
 use lib.ListN.{getD}
 use Rattle.octets.specs.BigEndian.{bigEndian}
-use Rattle.registry.specs.declared.Registry.{Registry}
-use Rattle.registry.specs.declared.Registry.the-variants.{Neighbor, Prefix, RouterCapability, Binding, Srv6Sid, Unregistered}
 use Rattle.tape.specs.Forest.{Forest, none, leaf, _⧺_}
 use Rattle.meaning.specs.Label
 use Rattle.meaning.specs.Tree.{content}
 use Rattle.meaning.specs.Cut.{pieces, total}
 use Rattle.meaning.specs.Frame.{whole}
 use Rattle.meaning.specs.Sid.{sidTrees, sidEnd}
-use Rattle.fields.specs.Shows.{numberTrees, arrayBy}
+use Rattle.fields.specs.Shows.{numbersIn}
 use Rattle.readings.specs.Reading.{Reading, took, given}
 
 -- a number in the width octets from a place on: label, shape, place, width
@@ -38,15 +36,6 @@ oneAddress label shape width registry v base = given width v (took width (octets
 abbrev pub forType : ℕ → ℕ → ℕ → ℕ
 forType kind one number = cond (eqb kind one) number 0
 
--- the label of the octet between flags and SID, in the types that have one; 0 in others
-abbrev pub octetLabel : Registry → ℕ → ℕ
-octetLabel Neighbor kind = forType kind 31 17
-octetLabel Prefix kind = forType kind 3 18
-octetLabel RouterCapability kind = 0
-octetLabel Binding kind = forType kind 3 18
-octetLabel Srv6Sid kind = 0
-octetLabel Unregistered kind = 0
-
 -- flags, an octet, a SID
 abbrev pub octetAndSid : ℕ → ℕ → List ℕ → ℕ → Reading
 octetAndSid label registry v base =
@@ -59,7 +48,7 @@ flagAndNumber label registry v base = given 4 v (took 4 (flagAt 21 0x80 registry
 -- an array of numbers: least length, label of the array, label, shape and width of the numbers
 abbrev pub numberArray : ℕ → ℕ → ℕ → ℕ → ℕ → ℕ → List ℕ → ℕ → Reading
 numberArray least array label shape width registry v base =
-    given least v (took (total (pieces (whole width) v)) (arrayBy array registry (numberTrees label shape width registry) base (pieces (whole width) v)))
+    given least v (took (total (pieces (whole width) v)) (numbersIn array label shape width registry v base))
 
 -- flags, algorithm, weight, endpoint behavior, from a place on
 abbrev pub endXHead : ℕ → List ℕ → ℕ → ℕ → Forest

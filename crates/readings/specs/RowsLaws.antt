@@ -1,18 +1,16 @@
 -- Rows of the table, as the cases of the code meet them.
 use mathlib.Core.Path.{_≡_, refl, ap, _∙_}
-use mathlib.Core.Bool.{Bool, true, false}
+use mathlib.Core.Bool.{true}
 use mathlib.Core.Logic.{_⊎_, inl, inr}
 use mathlib.Core.List.{List, [], _∷_}
 use Prim.Native.Nat.{ℕ, _+_, _≤_, _<_}
 use native.Mathlib.Nat.{add-zero, zero-add}
 use native.Mathlib.Omega.{arith}
-use lib.Dec.{eqb}
+use lib.ListN.{length}
 use native.Mathlib.Decide.{decLe}
-use borrow.Author.Tests.{eq-eqb, eqb-true}
-use Rattle.registry.specs.Registry.{numberOf}
-use Rattle.registry.specs.declared.Registry.{Registry}
-use Rattle.registry.specs.declared.Registry.the-variants.{Neighbor, Prefix, RouterCapability, Binding, Srv6Sid, Unregistered}
-use Rattle.tape.specs.Forest.{Forest, node, none, _⧺_}
+use borrow.Author.Tests.{le-leb}
+use Rattle.tape.specs.Forest.{Forest, node, none, size, _⧺_}
+use Rattle.meaning.specs.Label
 use Rattle.meaning.specs.Label.{Label, number}
 use Rattle.meaning.specs.Shape.{Shape, shapeNumber, hasNumber}
 use Rattle.meaning.specs.Field.{Span, Element, numbers, array}
@@ -21,14 +19,12 @@ use Rattle.meaning.specs.Cut.{pieces, total}
 use Rattle.meaning.specs.CutLaws.{each-same}
 use Rattle.meaning.specs.Frame.{whole}
 use Rattle.meaning.specs.Table.{table, fieldsOf, usual}
-use Rattle.meaning.specs.TableLaws.{leastIn, fieldsIn}
 use Rattle.meaning.specs.Array.{octetsIn, startOf, elements, elementTrees, arrayOf}
 use Rattle.meaning.specs.Value.{taken, fieldEnd, fieldTrees, fieldsTrees}
 use Rattle.fields.specs.Shows.{numberTrees, arrayBy}
-use Rattle.readings.specs.Reading.{took, readingOf, reading, Reads}
-use Rattle.readings.specs.ReadingLaws.{of-type, row-given}
-use Rattle.readings.specs.Rows.{forType, octetLabel, octetAndSid}
-use Rattle.readings.specs.declared.Decoded.{Decoded}
+use Rattle.fields.specs.ShowsLaws.{sid-shown}
+use Rattle.readings.specs.Reading.{took, readingOf}
+use Rattle.readings.specs.Rows.{octetAndSid}
 
 -- arrays that are read from a value's first octet on
 module _ (label : Label) (span : Span) (first : startOf span ≡ 0) (r : ℕ) (v : List ℕ) (base : ℕ) where
@@ -47,30 +43,11 @@ module _ (label : Label) (span : Span) (first : startOf span ≡ 0) (r : ℕ) (v
       ∙ ap (λ (f : Forest). took (total ps) (node (content (number label) 7 r base (base + total ps) 0) f none))
       (each-same (elementTrees (numbers l s w) r) (numberTrees (number l) (shapeNumber s) w r) (λ p at. rw has) ps base)
 
--- types with an octet between flags and SID
-module _ (v : List ℕ) (base : ℕ) {slim : Bool} {t u : List ℕ} {at : ℕ} {d : Decoded} where
-  -- by the row of the one type that a registry has
-  sid-row : (registry k kind label : ℕ) → (Reads slim (octetAndSid label registry v base) t u at d → Reads slim (readingOf registry v base (usual registry k v)) t u at d)
-      → 0 < forType kind k label → Reads slim (octetAndSid (forType kind k label) registry v base) t u at d → Reads slim (reading registry kind v base) t u at d
-  sid-row registry k kind label row some h = go (eqb kind k) refl
-    where
-      go : (is : Bool) → eqb kind k ≡ is → Reads slim (reading registry kind v base) t u at d
-      go true e = of-type registry k kind v base (eqb-true kind k e) (row (rw e at h))
-      go false e = absurd (omega (arith, rw e at some))
-
-  pub sid-type : (registry : Registry) (kind : ℕ) → 0 < octetLabel registry kind
-      → Reads slim (octetAndSid (octetLabel registry kind) (numberOf registry) v base) t u at d → Reads slim (reading (numberOf registry) kind v base) t u at d
-  unfolding usual fieldsOf table leastIn fieldsIn readingOf fieldsTrees fieldTrees taken fieldEnd _⧺_
-  sid-type Neighbor kind = sid-row 0 31 kind 17 (row-given 0 31 0 v base refl)
-  sid-type Prefix kind = sid-row 1 3 kind 18 (row-given 1 3 1 v base refl)
-  sid-type Binding kind = sid-row 3 3 kind 18 (row-given 3 3 3 v base refl)
-  sid-type RouterCapability kind = λ some h. absurd (omega (arith, some))
-  sid-type Srv6Sid kind = λ some h. absurd (omega (arith, some))
-  sid-type Unregistered kind = λ some h. absurd (omega (arith, some))
-
--- a number that is 0 is that of another type
-pub other-type : (kind k number : ℕ) → 0 < number → forType kind k number ≡ 0 → kind ≡ k → ⊥
-other-type kind k number some zero is = omega (arith, some, rw (eq-eqb kind k is) at zero)
+-- flags, an octet and a SID are three records
+pub octet-and-sid-size : (label registry : ℕ) (v : List ℕ) (base : ℕ) → 5 ≤ length v → size (octetAndSid label registry v base .found) ≡ 3
+unfolding _⧺_
+octet-and-sid-size label registry v base long =
+    rw (le-leb 5 (length v) long) (rw (sid-shown v 2 Label.sid registry base (omega arith)) refl)
 
 -- the types 37 through 39 share one reading
 pub bandwidth-types : (kind : ℕ) (v : List ℕ) → 37 ≤ kind → kind < 40 → usual 0 kind v ≡ usual 0 37 v
@@ -91,6 +68,6 @@ unfolding usual fieldsOf table
 ranges-types kind v (inl e) = ap (λ (n : ℕ). usual 2 n v) e
 ranges-types kind v (inr e) = ap (λ (n : ℕ). usual 2 n v) e
 
--- what is left of them after the types 32 to 36
-pub past-36 : (n : ℕ) → 32 ≤ n → (n ≡ 32 → ⊥) → (n ≡ 33 → ⊥) → (n ≡ 34 → ⊥) → (n ≡ 35 → ⊥) → (n ≡ 36 → ⊥) → 37 ≤ n
-past-36 n from not32 not33 not34 not35 not36 = omega arith
+-- what is left of them after the types 31 to 36
+pub past-36 : (n : ℕ) → 31 ≤ n → (n ≡ 31 → ⊥) → (n ≡ 32 → ⊥) → (n ≡ 33 → ⊥) → (n ≡ 34 → ⊥) → (n ≡ 35 → ⊥) → (n ≡ 36 → ⊥) → 37 ≤ n
+past-36 n from not31 not32 not33 not34 not35 not36 = omega arith

@@ -9,17 +9,15 @@ use fields::part::number24;
 use fields::part::number32;
 use fields::part::part;
 use fields::sid::sid;
-use registry::Registry;
 use tape::Position;
 use tape::label::Label;
 use tape::shape::Shape;
 ghost use mathlib.Core.Path.{_≡_};
 ghost use mathlib.Core.Bool.{true};
-ghost use Prim.Native.Nat.{_+_, _≤_, _<_, _^_};
-ghost use lib.ListN.{length};
+ghost use Prim.Native.Nat.{_≤_};
 ghost use Rattle.octets.specs.BigEndian.{isWidth};
-ghost use Rattle.readings.specs.Reading.{Reads};
-ghost use Rattle.readings.specs.Rows.{oneNumber, oneAddress, forType, octetLabel, octetAndSid, flagAndNumber, numberArray};
+ghost use Rattle.readings.specs.Reading.{Asks, Decodes};
+ghost use Rattle.readings.specs.Rows.{oneNumber, oneAddress, forType, octetAndSid, flagAndNumber, numberArray};
 
 // One number of 24 bits, from `at` on.
 pub fn one_number24(
@@ -31,8 +29,8 @@ pub fn one_number24(
     slim: bool,
     position: Position,
 ) -> Decoded
-    requires { ⌜ (at ≤ 8) × (source .base .0 + length (now value) < 2 ^ 32) × (position .0 < 2 ^ 59) ⌝ }
-    ensures { λ r. ⌜ Reads slim (oneNumber label 2 at 3 (source .registry) (now (value .entry)) (source .base .0)) (now (tape .entry)) (now (tape .exit)) (position .0) r ⌝ }
+    requires { ⌜ (at ≤ 8) × Asks slim (oneNumber label 2 at 3 (source .registry)) value (source .base) tape position ⌝ }
+    ensures { λ r. ⌜ Decodes slim (oneNumber label 2 at 3 (source .registry)) value (source .base) tape position r ⌝ }
 {
     if value.len() < at + 3 {
         return Decoded {
@@ -56,8 +54,8 @@ pub fn one_number32(
     slim: bool,
     position: Position,
 ) -> Decoded
-    requires { ⌜ (source .base .0 + length (now value) < 2 ^ 32) × (position .0 < 2 ^ 59) ⌝ }
-    ensures { λ r. ⌜ Reads slim (oneNumber label 2 0 4 (source .registry) (now (value .entry)) (source .base .0)) (now (tape .entry)) (now (tape .exit)) (position .0) r ⌝ }
+    requires { ⌜ Asks slim (oneNumber label 2 0 4 (source .registry)) value (source .base) tape position ⌝ }
+    ensures { λ r. ⌜ Decodes slim (oneNumber label 2 0 4 (source .registry)) value (source .base) tape position r ⌝ }
 {
     if value.len() < 4 {
         return Decoded {
@@ -83,8 +81,8 @@ fn one_address(
     slim: bool,
     position: Position,
 ) -> Decoded
-    requires { ⌜ (source .base .0 + length (now value) < 2 ^ 32) × (position .0 < 2 ^ 59) ⌝ }
-    ensures { λ r. ⌜ Reads slim (oneAddress label shape width (source .registry) (now (value .entry)) (source .base .0)) (now (tape .entry)) (now (tape .exit)) (position .0) r ⌝ }
+    requires { ⌜ Asks slim (oneAddress label shape width (source .registry)) value (source .base) tape position ⌝ }
+    ensures { λ r. ⌜ Decodes slim (oneAddress label shape width (source .registry)) value (source .base) tape position r ⌝ }
 {
     if value.len() < width {
         return Decoded {
@@ -108,8 +106,8 @@ pub fn ipv4(
     slim: bool,
     position: Position,
 ) -> Decoded
-    requires { ⌜ (source .base .0 + length (now value) < 2 ^ 32) × (position .0 < 2 ^ 59) ⌝ }
-    ensures { λ r. ⌜ Reads slim (oneAddress label 4 4 (source .registry) (now (value .entry)) (source .base .0)) (now (tape .entry)) (now (tape .exit)) (position .0) r ⌝ }
+    requires { ⌜ Asks slim (oneAddress label 4 4 (source .registry)) value (source .base) tape position ⌝ }
+    ensures { λ r. ⌜ Decodes slim (oneAddress label 4 4 (source .registry)) value (source .base) tape position r ⌝ }
 {
     one_address(value, source, label, Shape::IPV4, 4, tape, slim, position)
 }
@@ -123,8 +121,8 @@ pub fn ipv6(
     slim: bool,
     position: Position,
 ) -> Decoded
-    requires { ⌜ (source .base .0 + length (now value) < 2 ^ 32) × (position .0 < 2 ^ 59) ⌝ }
-    ensures { λ r. ⌜ Reads slim (oneAddress label 5 16 (source .registry) (now (value .entry)) (source .base .0)) (now (tape .entry)) (now (tape .exit)) (position .0) r ⌝ }
+    requires { ⌜ Asks slim (oneAddress label 5 16 (source .registry)) value (source .base) tape position ⌝ }
+    ensures { λ r. ⌜ Decodes slim (oneAddress label 5 16 (source .registry)) value (source .base) tape position r ⌝ }
 {
     one_address(value, source, label, Shape::IPV6, 16, tape, slim, position)
 }
@@ -139,22 +137,7 @@ pub fn for_type(kind: u8, one: u8, number: u8) -> u8
     0
 }
 
-// The octet between flags and SID, by its label, in Adj-SID (RFC 8667, section 2.2.1) and Prefix-SID (sections 2.1 and 2.4.4);
-// 0 in the types that are not read so.
-pub fn octet_label(registry: Registry, kind: u8) -> u8
-    ensures { λ r. ⌜ r ≡ octetLabel registry kind ⌝ }
-{
-    match registry {
-        Registry::Neighbor => for_type(kind, 31, Label::WEIGHT),
-        Registry::Prefix => for_type(kind, 3, Label::ALGORITHM),
-        Registry::RouterCapability => 0,
-        Registry::Binding => for_type(kind, 3, Label::ALGORITHM),
-        Registry::Srv6Sid => 0,
-        Registry::Unregistered => 0,
-    }
-}
-
-// Flags | an octet | SID.
+// Flags | an octet | SID: Adj-SID (RFC 8667, section 2.2.1) and Prefix-SID (sections 2.1 and 2.4.4).
 pub fn octet_and_sid(
     value: &[u8],
     source: Source,
@@ -163,8 +146,8 @@ pub fn octet_and_sid(
     slim: bool,
     position: Position,
 ) -> Decoded
-    requires { ⌜ (source .base .0 + length (now value) < 2 ^ 32) × (position .0 < 2 ^ 59) ⌝ }
-    ensures { λ r. ⌜ Reads slim (octetAndSid label (source .registry) (now (value .entry)) (source .base .0)) (now (tape .entry)) (now (tape .exit)) (position .0) r ⌝ }
+    requires { ⌜ Asks slim (octetAndSid label (source .registry)) value (source .base) tape position ⌝ }
+    ensures { λ r. ⌜ Decodes slim (octetAndSid label (source .registry)) value (source .base) tape position r ⌝ }
 {
     if value.len() < 5 {
         return Decoded {
@@ -192,8 +175,8 @@ pub fn flag_and_number(
     slim: bool,
     position: Position,
 ) -> Decoded
-    requires { ⌜ (source .base .0 + length (now value) < 2 ^ 32) × (position .0 < 2 ^ 59) ⌝ }
-    ensures { λ r. ⌜ Reads slim (flagAndNumber label (source .registry) (now (value .entry)) (source .base .0)) (now (tape .entry)) (now (tape .exit)) (position .0) r ⌝ }
+    requires { ⌜ Asks slim (flagAndNumber label (source .registry)) value (source .base) tape position ⌝ }
+    ensures { λ r. ⌜ Decodes slim (flagAndNumber label (source .registry)) value (source .base) tape position r ⌝ }
 {
     if value.len() < 4 {
         return Decoded {
@@ -222,8 +205,8 @@ pub fn number_array(
     slim: bool,
     position: Position,
 ) -> Decoded
-    requires { ⌜ (isWidth width ≡ true) × (source .base .0 + length (now value) < 2 ^ 32) × (position .0 < 2 ^ 59) ⌝ }
-    ensures { λ r. ⌜ Reads slim (numberArray least array label shape width (source .registry) (now (value .entry)) (source .base .0)) (now (tape .entry)) (now (tape .exit)) (position .0) r ⌝ }
+    requires { ⌜ (isWidth width ≡ true) × Asks slim (numberArray least array label shape width (source .registry)) value (source .base) tape position ⌝ }
+    ensures { λ r. ⌜ Decodes slim (numberArray least array label shape width (source .registry)) value (source .base) tape position r ⌝ }
 {
     if value.len() < least {
         return Decoded {

@@ -1,5 +1,4 @@
-// The words of records: written where they lie inside the tape, and read, in the layout asked for.
-use crate::header::width;
+// The words of records, written and read, in the layout asked for.
 use tape::Octet;
 use tape::Position;
 use tape::Record;
@@ -10,6 +9,8 @@ ghost use lib.ListN.{length, getD};
 ghost use lib.Seq.{sets};
 ghost use Rattle.tape.specs.Layout.{width, wordOf, pair, wordsOf, recordBy};
 ghost use Rattle.tape.specs.Tape.{room, putAt, recordAt};
+ghost use Rattle.tape.specs.Near.{Small, Kept};
+ghost use Rattle.tape.specs.Laid.{RoomFor};
 
 // The first word of the record at position `at`.
 fn first_word(slim: bool, at: Position) -> usize
@@ -19,11 +20,12 @@ fn first_word(slim: bool, at: Position) -> usize
     if slim { 4 + 4 * at.0 } else { 4 + 6 * at.0 }
 }
 
-// Two numbers in a word, low + 4,294,967,296 x high; of a number that has over 32 bits the low 32.
+// Two numbers below 4,294,967,296 in a word, low + 4,294,967,296 x high.
 fn pair(low: usize, high: usize) -> u64
+    requires { ⌜ (low < 4294967296) × (high < 4294967296) ⌝ }
     ensures { λ r. ⌜ r ≡ pair low high ⌝ }
 {
-    (low % 4294967296 + 4294967296 * (high % 4294967296)) as u64
+    (low + 4294967296 * high) as u64
 }
 
 // Writes the six words of `r` from word `b` on.
@@ -41,7 +43,7 @@ fn write_six(tape: &mut [u64], b: usize, r: Record)
 
 // Writes the four words of `r` from word `b` on.
 fn write_four(tape: &mut [u64], b: usize, r: Record)
-    requires { ⌜ b + 4 ≤ length (now tape) ⌝ }
+    requires { ⌜ (b + 4 ≤ length (now tape)) × Small r ⌝ }
     ensures { λ _. ⌜ now (tape .exit) ≡ sets (now (tape .entry)) b (wordsOf true r) ⌝ }
 {
     let octets = pair(r.start.0, r.end.0);
@@ -54,7 +56,7 @@ fn write_four(tape: &mut [u64], b: usize, r: Record)
 
 // Writes the words of `r` from word `b` on.
 fn write(tape: &mut [u64], slim: bool, b: usize, r: Record)
-    requires { ⌜ b + width slim ≤ length (now tape) ⌝ }
+    requires { ⌜ (b + width slim ≤ length (now tape)) × Kept slim r ⌝ }
     ensures { λ _. ⌜ now (tape .exit) ≡ sets (now (tape .entry)) b (wordsOf slim r) ⌝ }
 {
     if slim {
@@ -64,40 +66,13 @@ fn write(tape: &mut [u64], slim: bool, b: usize, r: Record)
     }
 }
 
-// Writes the words of `r` at position `at`, where they lie inside the tape, and nothing elsewhere.
+// Writes the words of `r` at position `at`; the tape keeps its room.
 pub fn put(tape: &mut [u64], slim: bool, at: Position, r: Record)
-    requires { ⌜ at .0 < 2 ^ 60 + 1 ⌝ }
-    ensures { λ _. ⌜ now (tape .exit) ≡ putAt slim (now (tape .entry)) (at .0) r ⌝ }
+    requires { ⌜ RoomFor slim (now tape) (at .0 + 1) × Kept slim r ⌝ }
+    ensures { λ _. ⌜ (now (tape .exit) ≡ putAt slim (now (tape .entry)) (at .0) r) × (room slim (now (tape .exit)) ≡ room slim (now (tape .entry))) ⌝ }
 {
     let b = first_word(slim, at);
-    if b + width(slim) <= tape.len() {
-        write(tape, slim, b, r);
-    }
-}
-
-// Writes three records from position `at` on, each where its words lie inside the tape.
-pub fn put_three(
-    tape: &mut [u64],
-    slim: bool,
-    at: Position,
-    first: Record,
-    second: Record,
-    third: Record,
-)
-    requires { ⌜ at .0 < 2 ^ 60 ⌝ }
-    ensures { λ _. ⌜ now (tape .exit) ≡ putAt slim (putAt slim (putAt slim (now (tape .entry)) (at .0 + 2) third) (at .0 + 1) second) (at .0) first ⌝ }
-{
-    let p = at.0;
-    let b = first_word(slim, at);
-    let w = width(slim);
-    if b + 3 * w <= tape.len() {
-        write(tape, slim, b + 2 * w, third);
-        write(tape, slim, b + w, second);
-        write(tape, slim, b, first);
-    } else {
-        put(tape, slim, Position(p + 1), second);
-        put(tape, slim, at, first);
-    }
+    write(tape, slim, b, r);
 }
 
 // The record in the six words from word `b` on.

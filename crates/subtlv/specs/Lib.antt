@@ -1,2 +1,2 @@
-pub mod Call
+pub mod Checks
 pub mod CallLaws

@@ -43,3 +43,7 @@ laying-end {slim} {left} {more} {t} {u} {at} {i} {next} g e c =
 pub laying-room : {slim : Bool} {left : ℕ → Forest} {more : ℕ → ℕ} {t u : List ℕ} {at i next : ℕ} (j : ℕ) (f : Forest)
     → Laying slim left more t u at i next → left i ≡ f ⧺ left j → next + size f ≤ at + size (left 0)
 laying-room {slim} {left} {i = i} j f g e = omega (arith, g .laid .place, ap size (g .whole), size-⧺ (g .front) (left i), ap size e, size-⧺ f (left j))
+
+-- what is laid lies inside the whole
+pub laying-inside : {slim : Bool} {left : ℕ → Forest} {more : ℕ → ℕ} {t u : List ℕ} {at i next : ℕ} → Laying slim left more t u at i next → (at ≤ next) × (next ≤ at + size (left 0))
+laying-inside {left = left} {i = i} g = (omega (arith, g .laid .place), omega (arith, g .laid .place, ap size (g .whole), size-⧺ (g .front) (left i)))

@@ -4,8 +4,10 @@ use mathlib.Core.List.{List, [], _∷_, _++_}
 use Prim.Native.Nat.{ℕ, suc, _+_, _≤_, _<_}
 use native.Mathlib.Omega.{arith}
 use Rattle.tape.specs.Layout.{roomOf}
-use Rattle.tape.specs.Near.{AllKept, Near}
+use Rattle.tape.specs.Record.{leafRecord, containerRecord}
+use Rattle.tape.specs.Near.{Kept, AllKept, NearContent, Near}
 use Rattle.tape.specs.Forest.{Forest, none, leaf, node, size, flat}
+use Rattle.tape.specs.declared.Content.{Content}
 use Rattle.tape.specs.declared.Record.{Record}
 
 -- some records and then more
@@ -36,3 +38,14 @@ pub near-kept : (slim : Bool) (f : Forest) (at n : ℕ) → Near f → at + size
 unfolding roomOf
 near-kept false f at n near fits = six-kept (flat at f)
 near-kept true f at n near fits = four-kept f at near (omega arith)
+
+-- a record that is put, in either layout
+
+pub kept-leaf : (slim : Bool) {m : Content} → NearContent m → Kept slim (leafRecord m)
+kept-leaf false near = tt
+kept-leaf true near = record { start = near .start; end = near .end; first = omega arith; past = omega arith }
+
+pub kept-container : (slim : Bool) (n : ℕ) {m : Content} {first past : ℕ} → NearContent m → first ≤ roomOf slim n → past ≤ roomOf slim n → Kept slim (containerRecord m first past)
+unfolding roomOf
+kept-container false n near before behind = tt
+kept-container true n near before behind = record { start = near .start; end = near .end; first = omega arith; past = omega arith }

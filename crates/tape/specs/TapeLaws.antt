@@ -6,8 +6,8 @@ use mathlib.Core.List.{List, [], _∷_, _++_}
 use Prim.Native.Nat.{ℕ, suc, _+_, _≤_, _<_}
 use native.Mathlib.Nat.{add-zero}
 use native.Mathlib.Omega.{arith}
-use native.Mathlib.Numerals.{towards-suc, add-one}
-use borrow.Author.Tests.{le-leb, lt-leb}
+use native.Mathlib.Numerals.{towards-suc}
+use borrow.Author.Tests.{le-leb}
 use lib.ListN.{length, getD, set}
 use lib.Seq.{sets, length-sets, set-comm, getD-set-other}
 use lib.Dec.{leb}
@@ -74,33 +74,6 @@ module _ (slim : Bool) where
   unfolding putAt
   put-inside t at b r is inside = rw is (rw (le-leb (wordOf slim at + width slim) (length t) (omega (arith, is))) refl)
 
-  -- nothing written, outside the tape
-  pub put-outside : (t : List ℕ) (at : ℕ) (r : Record) → length t < wordOf slim at + width slim → t ≡ putAt slim t at r
-  unfolding putAt
-  put-outside t at r outside = simp (lt-leb _ _ outside)
-
-  -- three records, of which the last is written first
-  module _ (t : List ℕ) (at : ℕ) (first second third : Record) where
-    -- inside the tape, each from its word on
-    pub three-inside : {u v w : List ℕ} {a b c : ℕ} → a ≡ wordOf slim at → b ≡ wordOf slim (at + 1) → c ≡ wordOf slim (at + 2) → c + width slim ≤ length t
-        → u ≡ sets t c (wordsOf slim third) → v ≡ sets u b (wordsOf slim second) → w ≡ sets v a (wordsOf slim first)
-        → w ≡ putAt slim (putAt slim (putAt slim t (at + 2) third) (at + 1) second) at first
-    three-inside {u} {v} {a = a} {b} {c} is is′ is″ inside x y z =
-        let lu : length u ≡ length t = ap length x ∙ length-sets t c (wordsOf slim third) in
-        let lv : length v ≡ length t = ap length y ∙ length-sets u b (wordsOf slim second) ∙ lu in
-        let ab : a ≤ b = rw (is, is′) (word-mono slim at (at + 1) (omega arith)) in
-        let bc : b ≤ c = rw (is′, is″) (word-mono slim (at + 1) (at + 2) (omega arith)) in
-        z
-        ∙ put-inside v at a first is (omega (arith, lv))
-        ∙ ap (λ (k : List ℕ). putAt slim k at first) (y
-        ∙ put-inside u (at + 1) b second is′ (omega (arith, lu))
-        ∙ ap (λ (k : List ℕ). putAt slim k (at + 1) second) (x ∙ put-inside t (at + 2) c third is″ inside))
-
-    -- the last one outside of it
-    pub three-outside : {u v : List ℕ} → length t < wordOf slim (at + 2) + width slim → u ≡ putAt slim t (at + 1) second → v ≡ putAt slim u at first
-        → v ≡ putAt slim (putAt slim (putAt slim t (at + 2) third) (at + 1) second) at first
-    three-outside outside a b = b ∙ ap (λ (k : List ℕ). putAt slim k at first) (a ∙ ap (λ (k : List ℕ). putAt slim k (at + 1) second) (put-outside t (at + 2) third outside))
-
   -- puts at two positions commute
   put-put : (t : List ℕ) (i j : ℕ) (a b : Record) → i < j → putAt slim (putAt slim t i a) j b ≡ putAt slim (putAt slim t j b) i a
   unfolding putAt
@@ -141,10 +114,20 @@ module _ (slim : Bool) where
   put-store [] t i at r before = refl
   put-store (x ∷ rs) t i at r before = ap (λ (k : List ℕ). store slim k (suc at) rs) (put-put t i at r x before) ∙ put-store rs (putAt slim t at x) i (suc at) r (omega arith)
 
-  -- children from at + 1 on, and then their container at at
-  pub container-last : (t : List ℕ) (at : ℕ) (r : Record) (rs : List Record) → putAt slim (store slim t (at + 1) rs) at r ≡ store slim t at (r ∷ rs)
+  -- three records put one after the other
+  pub put-three : (t : List ℕ) (at : ℕ) (a b c : Record) {u v w : List ℕ} → u ≡ putAt slim t at a → v ≡ putAt slim u (at + 1) b → w ≡ putAt slim v (at + 2) c
+      → w ≡ store slim t at (a ∷ b ∷ c ∷ [])
   unfolding store
-  container-last t at r rs = rw (add-one at) (sym (put-store rs t at (suc at) r (omega arith)))
+  put-three t at a b c e f g = g ∙ ap (λ (l : List ℕ). putAt slim l (at + 2) c) (f ∙ ap (λ (l : List ℕ). putAt slim l (at + 1) b) e) ∙ simp towards-suc
+
+  -- records stored in front of others are stored with them
+  pub store-front : (xs ys : List Record) (t : List ℕ) (at : ℕ) → store slim (store slim t (at + length xs) ys) at xs ≡ store slim t at (xs ++ ys)
+  unfolding store
+  store-front xs ys t at = go xs t at (at + length xs) (omega arith) ∙ sym (store-append xs ys t at)
+    where
+      go : (xs : List Record) (t : List ℕ) (at j : ℕ) → at + length xs ≤ j → store slim (store slim t j ys) at xs ≡ store slim (store slim t at xs) j ys
+      go [] t at j before = refl
+      go (x ∷ xs) t at j before = ap (λ (l : List ℕ). store slim l (suc at) xs) (sym (put-store ys t at j x (omega arith))) ∙ go xs (putAt slim t at x) (suc at) j (omega arith)
 
   -- a word outside the records that were stored
   pub getD-store : (rs : List Record) (t : List ℕ) (at k : ℕ) → (k < wordOf slim at) ⊎ (wordOf slim (at + length rs) ≤ k) → getD (store slim t at rs) k 0 ≡ getD t k 0

@@ -13,7 +13,7 @@ use Rattle.registry.specs.Registry.{numberOf}
 use Rattle.registry.specs.declared.Registry.the-variants.{Srv6Sid, Unregistered}
 use Rattle.tape.specs.Forest.{Forest, none, leaf, size, _⧺_}
 use Rattle.tape.specs.ForestLaws.{size-⧺, ⧺-none}
-use Rattle.tape.specs.Laid.{Laid}
+use Rattle.tape.specs.Laid.{Laid, Room, RoomFor}
 use Rattle.tape.specs.LaidLaws.{laid-then}
 use Rattle.meaning.specs.Tree.{content}
 use Rattle.meaning.specs.Frame.{covered}
@@ -32,7 +32,6 @@ use Rattle.readings.specs.ReadingLaws.{reads-as, row-fields}
 use Rattle.readings.specs.Rows.{octetsAt, forType, systemId, endXHead}
 use Rattle.readings.specs.declared.Decoded.{Decoded}
 use Rattle.readings.specs.declared.Taken.the-variants.{Octets}
-use Rattle.walk.specs.Rest.{Room}
 
 -- the row of type k: a head, and then the field f
 module _ (k registry : ℕ) (v : List ℕ) (base : ℕ) (row : OneRow registry k v) (long : leastIn table registry k ≤ length v) (head : Forest) (f : Field)
@@ -45,9 +44,21 @@ module _ (k registry : ℕ) (v : List ℕ) (base : ℕ) (row : OneRow registry k
   nested-is = row-fields registry k registry v base row long ∙ is ∙ ap (λ (g : Forest). took (fieldEnd v f) (head ⧺ g)) (⧺-none trees)
 
   -- the room that the field has
-  pub nested-room : {at next : ℕ} → Room (readingOf registry v base (usual registry k v) .found) (length v) base at → next ≡ at + size head → Room trees (length v) base next
-  nested-room room behind =
-      record { octet = room .octet; position = omega (arith, room .position, behind, ap (λ (x : Reading). size (x .found)) nested-is, size-⧺ head trees) }
+  pub nested-room : {slim : Bool} {t u : List ℕ} {at next : ℕ} → Room slim (readingOf registry v base (usual registry k v) .found) (length v) base t at → Laid slim head t u at next
+      → Room slim trees (length v) base u next
+  nested-room room laid =
+      record {
+        octet = room .octet;
+        position = record {
+          fits = omega (arith, room .position .fits, laid .place, laid .same, ap (λ (x : Reading). size (x .found)) nested-is, size-⧺ head trees);
+          small = omega (arith, room .position .small, laid .same);
+        };
+      }
+
+  -- the room that the head has
+  pub head-room : {slim : Bool} {t : List ℕ} {at : ℕ} → Room slim (readingOf registry v base (usual registry k v) .found) (length v) base t at → RoomFor slim t (at + size head + size trees)
+  head-room room =
+      record { fits = omega (arith, room .position .fits, ap (λ (x : Reading). size (x .found)) nested-is, size-⧺ head trees); small = room .position .small }
 
   -- the head, and then the field
   pub nested-made : {slim : Bool} {t u w : List ℕ} {at next : ℕ} {d : Decoded} → Laid slim head t u at next
@@ -61,6 +72,11 @@ system-id-size id registry base = go (eqb id 0)
     go : (is : Bool) → size (cond is none (octetsAt 20 6 0 id registry base)) ≤ 1
     go true = omega arith
     go false = omega arith
+
+-- what stands before the SID of an End.X SID is four records
+pub end-x-head-size : (registry : ℕ) (v : List ℕ) (base at : ℕ) → size (endXHead registry v base at) ≡ 4
+unfolding _⧺_
+end-x-head-size registry v base at = refl
 
 -- the types 43 and 44: the neighbor's system id, of that many octets, the head of an End.X SID, and its tail
 pub record EndX (kind id : ℕ) (v : List ℕ) (base : ℕ) : Type 0 where
@@ -79,6 +95,11 @@ end-x kind id v base from upto there = go (decLe kind 43)
     go : Dec (kind ≤ 43) → EndX kind id v base
     go (yes low) = at 43 (omega arith) (record { row = refl; least = refl; is = refl })
     go (no high) = at 44 (omega arith) (record { row = refl; least = refl; is = refl })
+
+-- an SRv6 tail is a record at least
+pub tail-some : (registry : ℕ) (v : List ℕ) (base at : ℕ) → 1 ≤ size (fieldTrees (walked usual) registry v base (tail at))
+unfolding fieldTrees _⧺_
+tail-some registry v base at = omega arith
 
 -- the SRv6 tail of a value v from a place on
 module _ (registry : ℕ) (v : List ℕ) (base at : ℕ) {slim : Bool} {t u : List ℕ} {position next : ℕ}
@@ -107,13 +128,16 @@ module _ (registry : ℕ) (v : List ℕ) (base at : ℕ) {slim : Bool} {t u : Li
     inside-length = rw (add-sub-cancel-left (at + 16 + 1) (getD v (at + 16) 0)) (length-take-le (getD v (at + 16) 0) (drop (at + 16 + 1) v) (omega (arith, length-drop (at + 16 + 1) v)))
 
     -- the room that the walk of the inner area has
-    pub inner-room : Room (fieldTrees (walked usual) registry v base (tail at)) (length v) base position
-        → Room (walked usual (numberOf Srv6Sid) inside (base + (at + 16 + 1))) (length inside) (base + (at + 16 + 1)) next
+    pub inner-room : Room slim (fieldTrees (walked usual) registry v base (tail at)) (length v) base t position
+        → Room slim (walked usual (numberOf Srv6Sid) inside (base + (at + 16 + 1))) (length inside) (base + (at + 16 + 1)) u next
     unfolding _⧺_
     inner-room room =
         record {
           octet = omega (arith, room .octet, inside-length);
-          position = rw inside-is (omega (arith, room .position, sid .place, ap size (inner-is .shows)));
+          position = rw inside-is (record {
+            fits = omega (arith, room .position .fits, sid .place, sid .same, ap size (inner-is .shows));
+            small = omega (arith, room .position .small, sid .same);
+          });
         }
 
     -- the SID, and the inner area behind it
@@ -134,8 +158,8 @@ module _ (registry : ℕ) (v : List ℕ) (base at : ℕ) where
   behind = take (length v - at) (drop at v)
 
   -- the room that it has
-  pub behind-room : {next : ℕ} → at ≤ length v → Room (fieldTrees (walked usual) registry v base (push at)) (length v) base next
-      → Room (pushed usual (numberOf Unregistered) behind (base + at)) (length behind) (base + at) next
+  pub behind-room : {slim : Bool} {t : List ℕ} {next : ℕ} → at ≤ length v → Room slim (fieldTrees (walked usual) registry v base (push at)) (length v) base t next
+      → Room slim (pushed usual (numberOf Unregistered) behind (base + at)) (length behind) (base + at) t next
   unfolding fieldTrees pushed
   behind-room there room = rw (part-rest at v) (record { octet = omega (arith, room .octet, length-drop at v); position = room .position })
 

@@ -1,109 +1,49 @@
-// The walk of an area: a walk decodes an entry, and an entry walks again. The remaining octets fall.
-use decoders::binding::binding;
+// The walk of an area: a walk decodes an entry, and an entry walks again. The remaining octets fall. A registry whose values may
+// hold an area has functions of its own, so that its number is a constant in all that they write; the others are in `plain`.
+use crate::entry::Entry;
+use crate::entry::complete;
+use crate::entry::entry_of_leaf;
+use crate::entry::raw;
+use crate::plain::plain_area;
 use decoders::prefix::end_head;
 use decoders::prefix::prefix;
 use decoders::router_capability::router_capability;
-use decoders::srv6_sid::srv6_sid;
 use fields::Shown;
 use fields::Source;
 use fields::array::container;
 use fields::part::number16;
 use fields::part::part;
+use neighbor::alone::alone;
 use neighbor::end_x_head;
 use neighbor::neighbor;
 use neighbor::system_id;
 use readings::Decoded;
 use readings::Taken;
 use readings::rows::for_type;
-use readings::rows::octet_and_sid;
-use readings::rows::octet_label;
 use registry::Registry;
 use registry::registries::Neighbor;
 use registry::registries::Prefix;
 use registry::registries::RouterCapability;
-use store::lay;
-use tape::Content;
 use tape::Octet;
 use tape::Position;
 use tape::label::Label;
 use tape::shape::Shape;
-ghost use mathlib.Core.Path.{_≡_};
 ghost use Prim.Native.Nat.{_+_, _≤_, _<_, _^_};
-ghost use lib.ListN.{length, drop};
+ghost use lib.ListN.{length};
 ghost use Rattle.registry.specs.Registry.{numberOf};
-ghost use Rattle.tape.specs.Record.{leafRecord, containerRecord};
-ghost use Rattle.tape.specs.Tape.{putAt};
-ghost use Rattle.tape.specs.Laid.{Laid};
-ghost use Rattle.meaning.specs.Tree.{content, raw as rawTrees};
+ghost use Rattle.tape.specs.Laid.{Room, RoomFor, was, Lays};
 ghost use Rattle.meaning.specs.Frame.{covered};
 ghost use Rattle.meaning.specs.Field.{tail as tailField};
 ghost use Rattle.meaning.specs.Table.{usual};
 ghost use Rattle.meaning.specs.Value.{fieldEnd, fieldTrees};
-ghost use Rattle.meaning.specs.Area.{entryTrees, walked, pushed};
-ghost use Rattle.fields.specs.Shows.{Shows};
-ghost use Rattle.readings.specs.Reading.{Reads, took, reading};
+ghost use Rattle.meaning.specs.Area.{walked, pushed};
+ghost use Rattle.fields.specs.Shows.{LaysUpTo};
+ghost use Rattle.readings.specs.Reading.{Reads, took, reading, Asks, Decodes};
 ghost use Rattle.readings.specs.Rows.{octetsAt};
-ghost use Rattle.walk.specs.Rest.{restOf, Room};
+ghost use Rattle.walk.specs.Entry.{entryIn, AsksFor};
 
-// Lays the octets from `at` on as one `raw` record, or nothing where there are none.
-fn raw(
-    octets: &[u8],
-    source: Source,
-    at: usize,
-    tape: &mut [u64],
-    slim: bool,
-    position: Position,
-) -> Position
-    requires { ⌜ (source .base .0 + length (now octets) < 2 ^ 32) × (position .0 < 2 ^ 60) ⌝ }
-    ensures { λ r. ⌜ Laid slim (rawTrees (source .registry) (source .base .0 + at) (drop at (now (octets .entry)))) (now (tape .entry)) (now (tape .exit)) (position .0) (r .0) ⌝ }
-{
-    let n = octets.len();
-    if n <= at {
-        return position;
-    }
-    part(
-        source,
-        Label::RAW,
-        Shape::BYTES,
-        at,
-        n - at,
-        0,
-        tape,
-        slim,
-        position,
-    )
-}
-
-// Lays what follows a decoder's records: the octets that it did not take, or the whole value.
-fn rest(
-    value: &[u8],
-    source: Source,
-    taken: Taken,
-    tape: &mut [u64],
-    slim: bool,
-    position: Position,
-) -> Position
-    requires { ⌜ (source .base .0 + length (now value) < 2 ^ 32) × (position .0 < 2 ^ 60) ⌝ }
-    ensures { λ r. ⌜ Laid slim (restOf (source .registry) (now (value .entry)) (source .base .0) taken) (now (tape .entry)) (now (tape .exit)) (position .0) (r .0) ⌝ }
-{
-    match taken {
-        Taken::Octets(k) => raw(value, source, k, tape, slim, position),
-        Taken::Nothing => {
-            let n = value.len();
-            part(
-                source,
-                Label::VALUE,
-                Shape::BYTES,
-                0,
-                n,
-                0,
-                tape,
-                slim,
-                position,
-            )
-        }
-    }
-}
+pub mod entry;
+pub mod plain;
 
 // Lays the 16 octets of an SRv6 SID from `at` on.
 fn sid_octets(
@@ -113,8 +53,8 @@ fn sid_octets(
     slim: bool,
     position: Position,
 ) -> Position
-    requires { ⌜ (source .base .0 + at + 16 < 2 ^ 32) × (position .0 < 2 ^ 60) ⌝ }
-    ensures { λ r. ⌜ Laid slim (octetsAt 29 5 at 16 (source .registry) (source .base .0)) (now (tape .entry)) (now (tape .exit)) (position .0) (r .0) ⌝ }
+    requires { ⌜ (source .base .0 + at + 16 < 2 ^ 32) × RoomFor slim (now tape) (position .0 + 1) ⌝ }
+    ensures { λ r. ⌜ Lays slim (octetsAt 29 5 at 16 (source .registry) (source .base .0)) tape position r ⌝ }
 {
     part(
         source,
@@ -138,8 +78,8 @@ fn tail(
     slim: bool,
     position: Position,
 ) -> Decoded
-    requires { ⌜ (at + 16 ≤ length (now value)) × Room (fieldTrees (walked usual) (source .registry) (now value) (source .base .0) (tailField at)) (length (now value)) (source .base .0) (position .0) ⌝ }
-    ensures { λ r. ⌜ Reads slim (took (fieldEnd (now (value .entry)) (tailField at)) (fieldTrees (walked usual) (source .registry) (now (value .entry)) (source .base .0) (tailField at))) (now (tape .entry)) (now (tape .exit)) (position .0) r ⌝ }
+    requires { ⌜ (at + 16 ≤ length (now value)) × Room slim (fieldTrees (walked usual) (source .registry) (now value) (source .base .0) (tailField at)) (length (now value)) (source .base .0) (now tape) (position .0) ⌝ }
+    ensures { λ r. ⌜ Reads slim (took (fieldEnd (was value) (tailField at)) (fieldTrees (walked usual) (source .registry) (was value) (source .base .0) (tailField at))) (was tape) (now (tape .exit)) (position .0) r ⌝ }
 {
     let n = value.len();
     let base = source.base.0;
@@ -176,7 +116,7 @@ fn tail(
 }
 
 // A value of registry 0, by its type. The types 43 and 44 differ in the neighbor's system id, 6 octets that type 44 has in front.
-fn decode_neighbor(
+fn neighbor_value(
     value: &[u8],
     kind: u8,
     base: Octet,
@@ -184,8 +124,8 @@ fn decode_neighbor(
     slim: bool,
     at: Position,
 ) -> Decoded
-    requires { ⌜ (kind ≡ 31 → ⊥) × Room (reading 0 kind (now value) (base .0) .found) (length (now value)) (base .0) (at .0) ⌝ }
-    ensures { λ r. ⌜ Reads slim (reading 0 kind (now (value .entry)) (base .0)) (now (tape .entry)) (now (tape .exit)) (at .0) r ⌝ }
+    requires { ⌜ Asks slim (reading 0 kind) value base tape at ⌝ }
+    ensures { λ r. ⌜ Decodes slim (reading 0 kind) value base tape at r ⌝ }
 {
     let n = value.len();
     let source = Source {
@@ -210,7 +150,7 @@ fn decode_neighbor(
 }
 
 // A value of registry 1, by its type.
-fn decode_prefix(
+fn prefix_value(
     value: &[u8],
     kind: u8,
     base: Octet,
@@ -218,8 +158,8 @@ fn decode_prefix(
     slim: bool,
     at: Position,
 ) -> Decoded
-    requires { ⌜ (kind ≡ 3 → ⊥) × Room (reading 1 kind (now value) (base .0) .found) (length (now value)) (base .0) (at .0) ⌝ }
-    ensures { λ r. ⌜ Reads slim (reading 1 kind (now (value .entry)) (base .0)) (now (tape .entry)) (now (tape .exit)) (at .0) r ⌝ }
+    requires { ⌜ Asks slim (reading 1 kind) value base tape at ⌝ }
+    ensures { λ r. ⌜ Decodes slim (reading 1 kind) value base tape at r ⌝ }
 {
     let n = value.len();
     let source = Source {
@@ -242,7 +182,7 @@ fn decode_prefix(
 }
 
 // A value of registry 2, by its type.
-fn decode_router_capability(
+fn router_value(
     value: &[u8],
     kind: u8,
     base: Octet,
@@ -250,8 +190,8 @@ fn decode_router_capability(
     slim: bool,
     at: Position,
 ) -> Decoded
-    requires { ⌜ Room (reading 2 kind (now value) (base .0) .found) (length (now value)) (base .0) (at .0) ⌝ }
-    ensures { λ r. ⌜ Reads slim (reading 2 kind (now (value .entry)) (base .0)) (now (tape .entry)) (now (tape .exit)) (at .0) r ⌝ }
+    requires { ⌜ Asks slim (reading 2 kind) value base tape at ⌝ }
+    ensures { λ r. ⌜ Decodes slim (reading 2 kind) value base tape at r ⌝ }
 {
     let n = value.len();
     let source = Source {
@@ -285,141 +225,66 @@ fn decode_router_capability(
     }
 }
 
-// A value: flags, an octet and a SID in the types that several registries read so; otherwise by its registry.
-fn decode(
-    value: &[u8],
-    kind: u8,
-    base: Octet,
-    registry: Registry,
-    tape: &mut [u64],
-    slim: bool,
-    at: Position,
-) -> Decoded
-    requires { ⌜ Room (reading (numberOf registry) kind (now value) (base .0) .found) (length (now value)) (base .0) (at .0) ⌝ }
-    ensures { λ r. ⌜ Reads slim (reading (numberOf registry) kind (now (value .entry)) (base .0)) (now (tape .entry)) (now (tape .exit)) (at .0) r ⌝ }
-{
-    let label = octet_label(registry, kind);
-    if 0 < label {
-        let source = Source {
-            registry: registry.number() as u8,
-            base,
-        };
-        return octet_and_sid(value, source, label, tape, slim, at);
-    }
-    match registry {
-        Registry::Neighbor => decode_neighbor(value, kind, base, tape, slim, at),
-        Registry::Prefix => decode_prefix(value, kind, base, tape, slim, at),
-        Registry::RouterCapability => decode_router_capability(value, kind, base, tape, slim, at),
-        Registry::Binding => binding(value, kind, base, tape, slim, at),
-        Registry::Srv6Sid => srv6_sid(value, kind, base, tape, slim, at),
-        Registry::Unregistered => Decoded {
-            taken: Taken::Nothing,
-            next: at,
-        },
-    }
-}
-
-// Lays the `sub_tlv` object of an entry of `n` octets, with its type and its length; its value stands behind these, up to `next`.
-fn entry_head(
-    source: Source,
-    kind: u8,
-    length: u8,
-    n: usize,
-    tape: &mut [u64],
-    slim: bool,
-    at: Position,
-    next: Position,
-)
-    requires { ⌜ (source .base .0 + n + 2 < 2 ^ 33) × (at .0 < 2 ^ 60) ⌝ }
-    ensures { λ _. ⌜ now (tape .exit) ≡ putAt slim (putAt slim (putAt slim (now (tape .entry)) (at .0 + 2) (leafRecord (content 1 0 (source .registry) (source .base .0 + 1) (source .base .0 + 2) length))) (at .0 + 1) (leafRecord (content 0 0 (source .registry) (source .base .0) (source .base .0 + 1) kind))) (at .0) (containerRecord (content 47 8 (source .registry) (source .base .0) (source .base .0 + n) 0) (at .0 + 1) (next .0)) ⌝ }
-{
-    let registry = source.registry;
-    let start = source.base.0;
-    let whole = Content {
-        label: Label::SUB_TLV,
-        shape: Shape::OBJECT,
-        registry,
-        start: Octet(start),
-        end: Octet(start + n),
-        number: 0,
-    };
-    let first = Content {
-        label: Label::TYPE,
-        shape: Shape::U8,
-        registry,
-        start: Octet(start),
-        end: Octet(start + 1),
-        number: kind as u64,
-    };
-    let second = Content {
-        label: Label::LENGTH,
-        shape: Shape::U8,
-        registry,
-        start: Octet(start + 1),
-        end: Octet(start + 2),
-        number: length as u64,
-    };
-    lay::container_of_two(tape, slim, at, whole, first, second, next)
-}
-
-// Lays a complete entry: its value, and then its object, type and length in front of it.
-fn entry(
+// Lays an entry of registry 0: four records where its value is one leaf.
+fn neighbor_entry(
     octets: &[u8],
     base: Octet,
-    registry: Registry,
     tape: &mut [u64],
     slim: bool,
     at: Position,
 ) -> Position
-    requires { ⌜ (2 ≤ length (now octets)) × Room (entryTrees usual (walked usual) (numberOf registry) (now octets) (base .0)) (length (now octets)) (base .0) (at .0) ⌝ }
-    ensures { λ r. ⌜ Laid slim (entryTrees usual (walked usual) (numberOf registry) (now (octets .entry)) (base .0)) (now (tape .entry)) (now (tape .exit)) (at .0) (r .0) ⌝ }
+    requires { ⌜ (2 ≤ length (now octets)) × AsksFor slim (entryIn 0) octets base tape at ⌝ }
+    ensures { λ r. ⌜ Lays slim (entryIn 0 (was octets) (base .0)) tape at r ⌝ }
 {
     let n = octets.len();
-    let kind = octets[0];
-    let length = octets[1];
-    let k = registry.number() as u8;
+    let entry = Entry::of(octets, base, Neighbor::NUMBER as u8);
+    let kind = entry.kind;
     let inside = Octet(base.0 + 2);
     let value = &octets[2..n];
-    let decoded = decode(
-        value,
-        kind,
-        inside,
-        registry,
-        tape,
-        slim,
-        Position(at.0 + 3),
-    );
-    let taken = decoded.taken;
-    let after = decoded.next;
-    let behind = Source {
-        registry: k,
-        base: inside,
-    };
-    let next = rest(value, behind, taken, tape, slim, after);
-    let source = Source { registry: k, base };
-    entry_head(source, kind, length, n, tape, slim, at, next);
-    next
+    let after = Position(at.0 + 3);
+    let one = alone(value, kind);
+    if one.is {
+        return entry_of_leaf(entry, n, one, tape, slim, at);
+    }
+    let decoded = neighbor_value(value, kind, inside, tape, slim, after);
+    complete(entry, value, decoded, tape, slim, at)
 }
 
-// Lays the complete entries of an area, and then the `sub_tlvs` array in front of them; nothing where the area is empty.
-pub fn walk(
-    area: &[u8],
-    base: Octet,
-    registry: Registry,
-    tape: &mut [u64],
-    slim: bool,
-    at: Position,
-) -> Shown
-    requires { ⌜ Room (walked usual (numberOf registry) (now area) (base .0)) (length (now area)) (base .0) (at .0) ⌝ }
-    ensures { λ r. ⌜ Shows slim (covered (now (area .entry))) (walked usual (numberOf registry) (now (area .entry)) (base .0)) (now (tape .entry)) (now (tape .exit)) (at .0) r ⌝ }
+// Lays an entry of registry 1.
+fn prefix_entry(octets: &[u8], base: Octet, tape: &mut [u64], slim: bool, at: Position) -> Position
+    requires { ⌜ (2 ≤ length (now octets)) × AsksFor slim (entryIn 1) octets base tape at ⌝ }
+    ensures { λ r. ⌜ Lays slim (entryIn 1 (was octets) (base .0)) tape at r ⌝ }
 {
-    let n = area.len();
-    if n == 0 {
-        return Shown {
-            covered: 0,
-            next: at,
-        };
-    }
+    let n = octets.len();
+    let entry = Entry::of(octets, base, Prefix::NUMBER as u8);
+    let kind = entry.kind;
+    let inside = Octet(base.0 + 2);
+    let value = &octets[2..n];
+    let after = Position(at.0 + 3);
+    let decoded = prefix_value(value, kind, inside, tape, slim, after);
+    complete(entry, value, decoded, tape, slim, at)
+}
+
+// Lays an entry of registry 2.
+fn router_entry(octets: &[u8], base: Octet, tape: &mut [u64], slim: bool, at: Position) -> Position
+    requires { ⌜ (2 ≤ length (now octets)) × AsksFor slim (entryIn 2) octets base tape at ⌝ }
+    ensures { λ r. ⌜ Lays slim (entryIn 2 (was octets) (base .0)) tape at r ⌝ }
+{
+    let n = octets.len();
+    let entry = Entry::of(octets, base, RouterCapability::NUMBER as u8);
+    let kind = entry.kind;
+    let inside = Octet(base.0 + 2);
+    let value = &octets[2..n];
+    let after = Position(at.0 + 3);
+    let decoded = router_value(value, kind, inside, tape, slim, after);
+    complete(entry, value, decoded, tape, slim, at)
+}
+
+// Lays the entries of an area of registry 0, and then the `sub_tlvs` array in front of them.
+fn neighbor_area(area: &[u8], base: Octet, tape: &mut [u64], slim: bool, at: Position) -> Shown
+    requires { ⌜ (0 < length (now area)) × AsksFor slim (walked usual 0) area base tape at ⌝ }
+    ensures { λ r. ⌜ LaysUpTo slim (covered (was area)) (walked usual 0 (was area) (base .0)) tape at r ⌝ }
+{
     let mut left = area;
     let mut place = base;
     let mut next = Position(at.0 + 1);
@@ -428,13 +293,13 @@ pub fn walk(
         if left.len() < length {
             break;
         }
-        next = entry(&left[0..length], place, registry, tape, slim, next);
+        next = neighbor_entry(&left[0..length], place, tape, slim, next);
         left = &left[length..];
         place = Octet(place.0 + length);
     }
     let covered = place.0 - base.0;
     let source = Source {
-        registry: registry.number() as u8,
+        registry: Neighbor::NUMBER as u8,
         base,
     };
     container(
@@ -450,6 +315,117 @@ pub fn walk(
     Shown { covered, next }
 }
 
+// Lays the entries of an area of registry 1, and then the `sub_tlvs` array in front of them.
+fn prefix_area(area: &[u8], base: Octet, tape: &mut [u64], slim: bool, at: Position) -> Shown
+    requires { ⌜ (0 < length (now area)) × AsksFor slim (walked usual 1) area base tape at ⌝ }
+    ensures { λ r. ⌜ LaysUpTo slim (covered (was area)) (walked usual 1 (was area) (base .0)) tape at r ⌝ }
+{
+    let mut left = area;
+    let mut place = base;
+    let mut next = Position(at.0 + 1);
+    while 2 <= left.len() {
+        let length = 2 + left[1] as usize;
+        if left.len() < length {
+            break;
+        }
+        next = prefix_entry(&left[0..length], place, tape, slim, next);
+        left = &left[length..];
+        place = Octet(place.0 + length);
+    }
+    let covered = place.0 - base.0;
+    let source = Source {
+        registry: Prefix::NUMBER as u8,
+        base,
+    };
+    container(
+        source,
+        Label::SUB_TLVS,
+        Shape::ARRAY,
+        covered,
+        tape,
+        slim,
+        at,
+        next,
+    );
+    Shown { covered, next }
+}
+
+// Lays the entries of an area of registry 2, and then the `sub_tlvs` array in front of them.
+fn router_area(area: &[u8], base: Octet, tape: &mut [u64], slim: bool, at: Position) -> Shown
+    requires { ⌜ (0 < length (now area)) × AsksFor slim (walked usual 2) area base tape at ⌝ }
+    ensures { λ r. ⌜ LaysUpTo slim (covered (was area)) (walked usual 2 (was area) (base .0)) tape at r ⌝ }
+{
+    let mut left = area;
+    let mut place = base;
+    let mut next = Position(at.0 + 1);
+    while 2 <= left.len() {
+        let length = 2 + left[1] as usize;
+        if left.len() < length {
+            break;
+        }
+        next = router_entry(&left[0..length], place, tape, slim, next);
+        left = &left[length..];
+        place = Octet(place.0 + length);
+    }
+    let covered = place.0 - base.0;
+    let source = Source {
+        registry: RouterCapability::NUMBER as u8,
+        base,
+    };
+    container(
+        source,
+        Label::SUB_TLVS,
+        Shape::ARRAY,
+        covered,
+        tape,
+        slim,
+        at,
+        next,
+    );
+    Shown { covered, next }
+}
+
+// Lays an area that has octets, by its registry.
+fn area(
+    octets: &[u8],
+    base: Octet,
+    registry: Registry,
+    tape: &mut [u64],
+    slim: bool,
+    at: Position,
+) -> Shown
+    requires { ⌜ (0 < length (now octets)) × AsksFor slim (walked usual (numberOf registry)) octets base tape at ⌝ }
+    ensures { λ r. ⌜ LaysUpTo slim (covered (was octets)) (walked usual (numberOf registry) (was octets) (base .0)) tape at r ⌝ }
+{
+    match registry {
+        Registry::Neighbor => neighbor_area(octets, base, tape, slim, at),
+        Registry::Prefix => prefix_area(octets, base, tape, slim, at),
+        Registry::RouterCapability => router_area(octets, base, tape, slim, at),
+        _ => plain_area(octets, base, registry, tape, slim, at),
+    }
+}
+
+// Lays the complete entries of an area, and then the `sub_tlvs` array in front of them; nothing where the area is empty.
+pub fn walk(
+    area: &[u8],
+    base: Octet,
+    registry: Registry,
+    tape: &mut [u64],
+    slim: bool,
+    at: Position,
+) -> Shown
+    requires { ⌜ AsksFor slim (walked usual (numberOf registry)) area base tape at ⌝ }
+    ensures { λ r. ⌜ LaysUpTo slim (covered (was area)) (walked usual (numberOf registry) (was area) (base .0)) tape at r ⌝ }
+{
+    if area.len() == 0 {
+        return Shown {
+            covered: 0,
+            next: at,
+        };
+    }
+    crate::area(area, base, registry, tape, slim, at)
+}
+
 // Lays the walk of an area, and one `raw` record beside it for the octets that it does not cover, if there are any.
 pub fn push(
     area: &[u8],
@@ -459,8 +435,8 @@ pub fn push(
     slim: bool,
     at: Position,
 ) -> Shown
-    requires { ⌜ Room (pushed usual (numberOf registry) (now area) (base .0)) (length (now area)) (base .0) (at .0) ⌝ }
-    ensures { λ r. ⌜ Shows slim (covered (now (area .entry))) (pushed usual (numberOf registry) (now (area .entry)) (base .0)) (now (tape .entry)) (now (tape .exit)) (at .0) r ⌝ }
+    requires { ⌜ AsksFor slim (pushed usual (numberOf registry)) area base tape at ⌝ }
+    ensures { λ r. ⌜ LaysUpTo slim (covered (was area)) (pushed usual (numberOf registry) (was area) (base .0)) tape at r ⌝ }
 {
     let shown = walk(area, base, registry, tape, slim, at);
     let covered = shown.covered;

@@ -29,7 +29,7 @@ same-length : tie.Need-same-length
 same-length c = search needs
 
 returns : tie.Need-returns
-returns c = laid-then (c .before .before .before .before .before .before .before .before .before .before .before .before .before .before .number8 .ensures) (laid-then (c .before .before .before .before .before .before .before .before .before .before .number82 .ensures) (laid-then (c .before .before .before .before .before .before .number83 .ensures) (c .before .before .number16 .ensures)))
+returns c = search laid-then
 
 pub end-x-head-spec : {M : Type 1} → statement M
 end-x-head-spec =

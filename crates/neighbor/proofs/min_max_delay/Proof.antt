@@ -1,4 +1,5 @@
 -- The bit and two numbers, one after the other.
+use Rattle.readings.specs.Plain.{plain-room}
 use mathlib.Core.Path.{refl}
 use Rattle.tape.specs.Forest.{_⧺_}
 use Rattle.tape.specs.LaidLaws.{laid-then}
@@ -16,20 +17,34 @@ unfolding usual fieldsOf table leastIn fieldsIn
 returns c = let g = c .before .before .before .args in row-short 0 34 (g .source .registry) (g .value .now) (g .source .base .0) refl (c .if1 .taken)
 
 flag-requires : tie.Need-flag-requires
-flag-requires c κs = search needs
+unfolding usual fieldsOf table leastIn fieldsIn
+flag-requires c κs =
+    let g = c .before .before .before .before .args in
+    let room = plain-room 0 34 (g .source .registry) (g .value .now) (g .source .base .0) refl (c .before .if1 .left) tt (c .before .before .before .before .pre) in
+    search needs
 
 number24-requires : tie.Need-number24-requires
-number24-requires c κs = search needs
+unfolding usual fieldsOf table leastIn fieldsIn
+number24-requires c κs =
+    let g = c .before .before .before .before .before .before .before .before .args in
+    let room = plain-room 0 34 (g .source .registry) (g .value .now) (g .source .base .0) refl (c .before .before .before .before .before .if1 .left) tt (c .before .before .before .before .before .before .before .before .pre) in
+    search needs
 
 number24-requires-2 : tie.Need-number24-requires-2
-number24-requires-2 c κs = search needs
+unfolding usual fieldsOf table leastIn fieldsIn
+number24-requires-2 c κs =
+    let g = c .before .before .before .before .before .before .before .before .before .before .before .before .args in
+    let room = plain-room 0 34 (g .source .registry) (g .value .now) (g .source .base .0) refl (c .before .before .before .before .before .before .before .before .before .if1 .left) tt (c .before .before .before .before .before .before .before .before .before .before .before .before .pre) in
+    search needs
 
 same-length : tie.Need-same-length
 same-length c = search needs
 
 returns-2 : tie.Need-returns-2
 unfolding usual fieldsOf table leastIn fieldsIn readingOf fieldsTrees fieldTrees taken fieldEnd _⧺_
-returns-2 c = let g = c .before .before .before .before .before .before .before .before .before .before .before .before .before .before .before .args in row-long 0 34 (g .source .registry) (g .value .now) (g .source .base .0) refl (c .before .before .before .before .before .before .before .before .before .before .before .before .if1 .left) (record { taken = refl; laid = laid-then (c .before .before .before .before .before .before .before .before .before .before .flag .ensures) (laid-then (c .before .before .before .before .before .before .number24 .ensures) (c .before .before .number242 .ensures)) })
+returns-2 c =
+    let g = c .before .before .before .before .before .before .before .before .before .before .before .before .before .before .before .args in
+    row-long 0 34 (g .source .registry) (g .value .now) (g .source .base .0) refl (c .before .before .before .before .before .before .before .before .before .before .before .before .if1 .left) (record { taken = refl; laid = search laid-then })
 
 pub min-max-delay-spec : {M : Type 1} → statement M
 min-max-delay-spec =

@@ -11,6 +11,7 @@ use Rattle.meaning.specs.Value.{fieldEnd, fieldTrees, fieldsTrees, taken}
 use Rattle.readings.specs.Reading.{readingOf}
 use Rattle.readings.specs.ReadingLaws.{row-short, row-long}
 use Rattle.readings.specs.declared.Taken.the-variants.{Octets}
+use Rattle.readings.specs.Plain.{plain-room}
 use borrow.Author.Needs.{needs}
 use Rattle.decoders.proofs.binding.sid_label.Statement.{statement}
 use Rattle.decoders.proofs.binding.sid_label.Tie as tie
@@ -20,14 +21,24 @@ unfolding usual fieldsOf table leastIn fieldsIn
 returns c = let g = c .before .before .before .args in row-short 3 1 (g .source .registry) (g .value .now) (g .source .base .0) refl (c .if1 .taken)
 
 sid-requires : tie.Need-sid-requires
-sid-requires c κs = search needs
+unfolding usual fieldsOf table leastIn fieldsIn
+sid-requires c κs =
+    let entered = c .before .before .before .before in
+    let g = entered .args in
+    let room = plain-room 3 1 (g .source .registry) (g .value .now) (g .source .base .0) refl (c .before .if1 .left) (omega arith, tt) (entered .pre) in
+    search needs
 
 same-length : tie.Need-same-length
 same-length c = search needs
 
 returns-2 : tie.Need-returns-2
 unfolding usual fieldsOf table leastIn fieldsIn readingOf fieldsTrees fieldTrees taken fieldEnd _⧺_
-returns-2 c = let g = c .before .before .before .before .before .before .before .before .args in let x = shown-sid (g .value .now) 0 Label.sid (g .source .registry) (g .source .base .0) (omega arith) (c .before .before .before .sid .ensures) in row-long 3 1 (g .source .registry) (g .value .now) (g .source .base .0) refl (c .before .before .before .before .before .if1 .left) (record { taken = ap Octets (x .covers); laid = laid-then (x .laid) laid-none })
+returns-2 c =
+    let tested = c .before .before .before .before .before in
+    let entered = tested .before .before .before in
+    let g = entered .args in
+    let x = shown-sid (g .value .now) 0 Label.sid (g .source .registry) (g .source .base .0) (omega arith) (c .before .before .before .sid .ensures) in
+    row-long 3 1 (g .source .registry) (g .value .now) (g .source .base .0) refl (tested .if1 .left) (record { taken = ap Octets (x .covers); laid = laid-then (x .laid) laid-none })
 
 pub sid-label-spec : {M : Type 1} → statement M
 sid-label-spec = tie.close (tie.spec returns sid-requires same-length returns-2)

@@ -14,7 +14,7 @@ same-length : tie.Need-same-length
 same-length c = search needs
 
 returns : tie.Need-returns
-returns c = laid-then (c .before .before .before .before .before .before .number8 .ensures) (c .before .before .number16 .ensures)
+returns c = search laid-then
 
 pub end-head-spec : {M : Type 1} → statement M
 end-head-spec = tie.close (tie.spec number8-requires number16-requires same-length returns)

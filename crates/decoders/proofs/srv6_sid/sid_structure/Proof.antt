@@ -7,6 +7,7 @@ use Rattle.meaning.specs.TableLaws.{leastIn, fieldsIn}
 use Rattle.meaning.specs.Value.{fieldEnd, fieldTrees, fieldsTrees, taken}
 use Rattle.readings.specs.Reading.{readingOf}
 use Rattle.readings.specs.ReadingLaws.{row-short, row-long}
+use Rattle.readings.specs.Plain.{plain-room}
 use borrow.Author.Needs.{needs}
 use Rattle.decoders.proofs.srv6_sid.sid_structure.Statement.{statement}
 use Rattle.decoders.proofs.srv6_sid.sid_structure.Tie as tie
@@ -16,23 +17,45 @@ unfolding usual fieldsOf table leastIn fieldsIn
 returns c = let g = c .before .before .before .args in row-short 4 1 (g .source .registry) (g .value .now) (g .source .base .0) refl (c .if1 .taken)
 
 number8-requires : tie.Need-number8-requires
-number8-requires c κs = search needs
+unfolding usual fieldsOf table leastIn fieldsIn
+number8-requires c κs =
+    let entered = c .before .before .before .before in
+    let g = entered .args in
+    let room = plain-room 4 1 (g .source .registry) (g .value .now) (g .source .base .0) refl (c .before .if1 .left) tt (entered .pre) in
+    search needs
 
 number8-requires-2 : tie.Need-number8-requires-2
-number8-requires-2 c κs = search needs
+unfolding usual fieldsOf table leastIn fieldsIn
+number8-requires-2 c κs =
+    let entered = c .before .before .before .before .before .before .before .before in
+    let g = entered .args in
+    let room = plain-room 4 1 (g .source .registry) (g .value .now) (g .source .base .0) refl (c .before .before .before .before .before .if1 .left) tt (entered .pre) in
+    search needs
 
 number8-requires-3 : tie.Need-number8-requires-3
-number8-requires-3 c κs = search needs
+unfolding usual fieldsOf table leastIn fieldsIn
+number8-requires-3 c κs =
+    let entered = c .before .before .before .before .before .before .before .before .before .before .before .before in
+    let g = entered .args in
+    let room = plain-room 4 1 (g .source .registry) (g .value .now) (g .source .base .0) refl (c .before .before .before .before .before .before .before .before .before .if1 .left) tt (entered .pre) in
+    search needs
 
 number8-requires-4 : tie.Need-number8-requires-4
-number8-requires-4 c κs = search needs
+unfolding usual fieldsOf table leastIn fieldsIn
+number8-requires-4 c κs =
+    let entered = c .before .before .before .before .before .before .before .before .before .before .before .before .before .before .before .before in
+    let g = entered .args in
+    let room = plain-room 4 1 (g .source .registry) (g .value .now) (g .source .base .0) refl (c .before .before .before .before .before .before .before .before .before .before .before .before .before .if1 .left) tt (entered .pre) in
+    search needs
 
 same-length : tie.Need-same-length
 same-length c = search needs
 
 returns-2 : tie.Need-returns-2
 unfolding usual fieldsOf table leastIn fieldsIn readingOf fieldsTrees fieldTrees taken fieldEnd _⧺_
-returns-2 c = let g = c .before .before .before .before .before .before .before .before .before .before .before .before .before .before .before .before .before .before .before .args in row-long 4 1 (g .source .registry) (g .value .now) (g .source .base .0) refl (c .before .before .before .before .before .before .before .before .before .before .before .before .before .before .before .before .if1 .left) (record { taken = refl; laid = laid-then (c .before .before .before .before .before .before .before .before .before .before .before .before .before .before .number8 .ensures) (laid-then (c .before .before .before .before .before .before .before .before .before .before .number82 .ensures) (laid-then (c .before .before .before .before .before .before .number83 .ensures) (c .before .before .number84 .ensures))) })
+returns-2 c =
+    let g = c .before .before .before .before .before .before .before .before .before .before .before .before .before .before .before .before .before .before .before .args in
+    row-long 4 1 (g .source .registry) (g .value .now) (g .source .base .0) refl (c .before .before .before .before .before .before .before .before .before .before .before .before .before .before .before .before .if1 .left) (record { taken = refl; laid = search laid-then })
 
 pub sid-structure-spec : {M : Type 1} → statement M
 sid-structure-spec =

@@ -13,7 +13,7 @@ returns : tie.Need-returns
 returns c = rw (lt-leb _ _ (c .if1 .taken)) reads-nothing
 
 number24-requires : tie.Need-number24-requires
-number24-requires c κs = search needs
+number24-requires c κs = let room = rw (le-leb _ _ (c .before .if1 .left)) at (c .before .before .before .before .pre .1) in search needs
 
 add-t9 : tie.Need-add-t9
 add-t9 c = search needs

@@ -10,7 +10,7 @@ returns : tie.Need-returns
 returns c = rw (lt-leb _ _ (c .if1 .taken)) reads-nothing
 
 number32-requires : tie.Need-number32-requires
-number32-requires c κs = search needs
+number32-requires c κs = let room = rw (le-leb _ _ (c .before .if1 .left)) at (c .before .before .before .before .pre) in search needs
 
 same-length : tie.Need-same-length
 same-length c = search needs

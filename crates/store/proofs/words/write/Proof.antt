@@ -7,7 +7,7 @@ write-four-requires : tie.Need-write-four-requires
 write-four-requires c κs = rw (c .before .if1 .taken) at (c .before .before .before .pre)
 
 write-six-requires : tie.Need-write-six-requires
-write-six-requires c κs = rw (c .before .if1 .left) at (c .before .before .before .pre)
+write-six-requires c κs = (rw (c .before .if1 .left) at (c .before .before .before .pre)) .0
 
 same-length : tie.Need-same-length
 same-length c = search needs

@@ -1,0 +1,10 @@
+pub mod Records
+pub mod RecordsLaws
+pub mod Counting
+pub mod AreaCount
+pub mod PlainTypes
+pub mod RowCount
+pub mod Unread
+pub mod LastCount
+pub mod TailCount
+pub mod ArrayCount
