@@ -55,7 +55,7 @@ enum wakkemosut_number {
     X(WAKKEMOSUT_NO_ROOM, 5, "no room for the records") /* more are needed than there is free room for */ \
     X(WAKKEMOSUT_PAST_COUNT, 6, "past the count of records") /* a read at or past it, or a mark past it */ \
     X(WAKKEMOSUT_CUTS_CONTAINER, 7, "a record before the mark ends after it") \
-    X(WAKKEMOSUT_NO_RECORD, 8, "the words are no record") /* by label, shape or registry, or start after end; not by the mark */ \
+    X(WAKKEMOSUT_NO_RECORD, 8, "the words are no record") /* by label, shape or registry, or start after end */ \
     X(WAKKEMOSUT_NAME_TOO_LONG, 9, "the name is longer than the lent octets") \
     X(WAKKEMOSUT_DUMP_INPUT_LENGTH, 10, "the dump program's input is too short or too long") /* no function gives it */ \
     /* An answer more is a line more, above this one. */
@@ -120,7 +120,7 @@ enum wakkemosut_tape {
 
 /* Words of a record: as they lie on a tape of the usual layout, and as a read gives them of either. */
 enum wakkemosut_word {
-    WAKKEMOSUT_WORD_KIND = 0,        /* label + 256 x shape + 65,536 x registry of the walk that wrote it, and perhaps the mark */
+    WAKKEMOSUT_WORD_KIND = 0,        /* label + 256 x shape + 65,536 x registry of the walk that wrote it */
     WAKKEMOSUT_WORD_START = 1,       /* the first octet, base added */
     WAKKEMOSUT_WORD_END = 2,         /* one past the last octet, base added */
     WAKKEMOSUT_WORD_NUMBER = 3,      /* the number; 0 for shapes from IPV4 up */
@@ -140,19 +140,10 @@ enum wakkemosut_slim_word {
 #define WAKKEMOSUT_SLIM_START_OF(word) ((word) & 4294967295u)
 #define WAKKEMOSUT_SLIM_END_OF(word) ((word) >> 32)
 
-/*
- * The mark in word 0: 1,048,576 more where the reserved bits that RFC 8570 has before a record's number are not all 0. They are the
- * seven bits after the anomalous bit before DELAY, MIN_DELAY and LINK_LOSS, and the octet before MAX_DELAY and DELAY_VARIATION; a
- * walk or push marks no other record. The number is the same with the mark and without. A read gives word 0 as it stands, and takes
- * or refuses a record with the mark, whichever it is, as it does without.
- */
-#define WAKKEMOSUT_RESERVED_MARK 1048576
-
-/* The parts of a record's word 0; RESERVED_OF is 1 where it has the mark, otherwise 0. */
+/* The parts of a record's word 0. */
 #define WAKKEMOSUT_LABEL_OF(kind) ((kind) & 255u)
 #define WAKKEMOSUT_SHAPE_OF(kind) ((kind) >> 8 & 255u)
-#define WAKKEMOSUT_REGISTRY_OF(kind) (((kind) & ~(uint64_t)WAKKEMOSUT_RESERVED_MARK) >> 16)
-#define WAKKEMOSUT_RESERVED_OF(kind) ((kind) / WAKKEMOSUT_RESERVED_MARK & 1u)
+#define WAKKEMOSUT_REGISTRY_OF(kind) ((kind) >> 16)
 
 /* Shapes. IPV4, IPV6 and BYTES carry no number: the octets are those in the range. ARRAY and OBJECT are containers. */
 enum wakkemosut_shape {

@@ -1,8 +1,8 @@
 /*
  * Uses every function of wakkemosut.h and holds it to document 01: its examples, and each refusal of each function. The calls on
- * a tape are tested in both layouts, the slim one by document 02, request 09; the mark of reserved bits by its request 04. What the
- * header itself defines is tested too; all texts of labels and answers are held by bindings/rust/tests/numbers.rs. Prints one line
- * and exits with 0, or names the first check that failed and exits with 1.
+ * a tape are tested in both layouts, the slim one by document 02, request 09. What the header itself defines is tested too; all texts
+ * of labels and answers are held by bindings/rust/tests/numbers.rs. Prints one line and exits with 0, or names the first check that
+ * failed and exits with 1.
  */
 #include <stdio.h>
 #include <stdlib.h>
@@ -18,7 +18,6 @@
 #define MORE_ROOM 7
 #define NESTED_ROOM 14
 #define LABELS 57
-#define MARK 1048576
 #define NO_ANSWER "no answer of this library"
 #define WORDS words_for(ROOM)
 #define MORE_WORDS words_for(MORE_ROOM)
@@ -40,36 +39,6 @@ static const uint64_t LISTING[ROOM][6] = {
 
 /* Registry 2: the range of 01's ninth case, a preference of 7, and an octet after it. */
 static const uint8_t NESTED[15] = {0x02, 0x09, 0xC0, 0x00, 0x03, 0xE8, 0x01, 0x03, 0x00, 0x3E, 0x80, 0x18, 0x01, 0x07, 0xFF};
-
-/* An entry of registry 0, the records that it becomes, and which of them are marked: the bit of a position is set. */
-struct reserved_case {
-    uint8_t entry[11];
-    size_t length, records;
-    unsigned marked;
-};
-
-/* Each type with reserved bits, none of them set, the first, the last, all, and what stands beside them; then what has none. */
-static const struct reserved_case RESERVED_CASES[] = {
-    {{0x21, 4, 0x80, 0xFF, 0xFF, 0xFF}, 6, 6, 0},
-    {{0x21, 4, 0x40, 0, 0, 1}, 6, 6, 1u << 5},
-    {{0x21, 4, 0x01, 0, 0, 1}, 6, 6, 1u << 5},
-    {{0x21, 5, 0xFF, 0, 0, 1, 9}, 7, 7, 1u << 5},
-    {{0x21, 3, 0xFF, 0, 0}, 5, 5, 0},
-    {{0x22, 8, 0x80, 0, 0, 1, 0, 0xFF, 0xFF, 0xFF}, 10, 7, 0},
-    {{0x22, 8, 0x40, 0, 0, 1, 0, 0, 0, 2}, 10, 7, 1u << 5},
-    {{0x22, 8, 0x01, 0, 0, 1, 0, 0, 0, 2}, 10, 7, 1u << 5},
-    {{0x22, 8, 0, 0, 0, 1, 0x80, 0, 0, 2}, 10, 7, 1u << 6},
-    {{0x22, 8, 0x80, 0, 0, 1, 0x01, 0, 0, 2}, 10, 7, 1u << 6},
-    {{0x22, 8, 0x7F, 0, 0, 1, 0xFF, 0, 0, 2}, 10, 7, 1u << 5 | 1u << 6},
-    {{0x22, 7, 0x7F, 0, 0, 1, 0xFF, 0, 0}, 9, 5, 0},
-    {{0x23, 4, 0, 0xFF, 0xFF, 0xFF}, 6, 5, 0},
-    {{0x23, 4, 0x80, 0, 0, 1}, 6, 5, 1u << 4},
-    {{0x23, 4, 0x01, 0, 0, 1}, 6, 5, 1u << 4},
-    {{0x24, 4, 0x80, 0xFF, 0xFF, 0xFF}, 6, 6, 0},
-    {{0x24, 4, 0x40, 0, 0, 1}, 6, 6, 1u << 5},
-    {{0x24, 4, 0xFF, 0, 0, 1}, 6, 6, 1u << 5},
-    {{0x12, 3, 0xFF, 0xFF, 0xFF}, 5, 5, 0},
-    {{0x25, 4, 0xFF, 0xFF, 0xFF, 0xFF}, 6, 5, 0}};
 
 /* What a refused read gives. */
 static const uint64_t ZEROS[6] = {0, 0, 0, 0, 0, 0};
@@ -416,84 +385,6 @@ static void test_read(void) {
     CHECK(reads(4, WORDS, ZEROS) && refused(WAKKEMOSUT_NO_RECORD));
 }
 
-/* Puts a record of the listing on the tape with this word 0, and checks that a read gives it so. */
-static void check_reads_kind(size_t position, uint64_t kind) {
-    uint64_t record[6];
-    memcpy(record, LISTING[position], sizeof record);
-    record[WAKKEMOSUT_WORD_KIND] = kind;
-    put_changed(position, WAKKEMOSUT_WORD_KIND, kind);
-    CHECK(reads(position, WORDS, record) && gave(WAKKEMOSUT_DONE, 0, 0, 0));
-}
-
-/* Puts a record of the listing on the tape with this word 0, and checks that a read refuses it. */
-static void check_refuses_kind(size_t position, uint64_t kind) {
-    put_changed(position, WAKKEMOSUT_WORD_KIND, kind);
-    CHECK(reads(position, WORDS, ZEROS) && refused(WAKKEMOSUT_NO_RECORD));
-}
-
-/* A read gives any record with the mark, and refuses with it what it refuses without; the nest test does not see it. */
-static void test_read_marked(void) {
-    uint64_t at;
-    start_with_metric();
-    for (at = 0; at < ROOM; at++)
-        check_reads_kind(at, LISTING[at][WAKKEMOSUT_WORD_KIND] + MARK);
-    CHECK(layout->nest_test(tape, WORDS) == 1);
-    check_reads_kind(4, KIND(LABELS - 1, 8, 5) + MARK);
-    check_refuses_kind(4, KIND(LABELS, 0, 0) + MARK);
-    check_refuses_kind(4, KIND(0, 9, 0) + MARK);
-    check_refuses_kind(4, KIND(0, 0, 6) + MARK);
-    check_refuses_kind(4, KIND(0, 0, 15) + MARK);
-    check_refuses_kind(4, 2 * MARK);
-    check_refuses_kind(4, 3 * MARK);
-    check_refuses_kind(4, UINT64_C(0x8000000000000000) + MARK);
-    put_changed(4, WAKKEMOSUT_WORD_START, 106);
-    tape[words_for(4)] += MARK;
-    CHECK(reads(4, WORDS, ZEROS) && refused(WAKKEMOSUT_NO_RECORD));
-}
-
-/* Whether of the records on the tape just those of this case are marked, and each is read with a registry of 0. */
-static int marked_as(const struct reserved_case *wanted) {
-    uint64_t record[6];
-    size_t at;
-    for (at = 0; at < wanted->records; at++) {
-        layout->read(tape, MORE_WORDS, at, record, numbers);
-        if (!gave(WAKKEMOSUT_DONE, 0, 0, 0) || record[0] != tape[words_for(at)])
-            return 0;
-        if (WAKKEMOSUT_RESERVED_OF(record[0]) != (wanted->marked >> at & 1) || WAKKEMOSUT_REGISTRY_OF(record[0]) != 0)
-            return 0;
-    }
-    return 1;
-}
-
-/* Checks which records a walk or push of a case marks. */
-static void check_marks(area_call *call, const struct reserved_case *wanted) {
-    fill();
-    layout->clear(tape, MORE_WORDS, numbers);
-    CHECK(gave(WAKKEMOSUT_DONE, 0, 0, 0));
-    call(wanted->entry, wanted->length, BASE, WAKKEMOSUT_REGISTRY_NEIGHBOR, tape, MORE_WORDS, numbers);
-    CHECK(gave(WAKKEMOSUT_DONE, wanted->length, wanted->records, wanted->records));
-    CHECK(marked_as(wanted));
-}
-
-/* Every case; and the two marked records of one, in all their words. */
-static void test_reserved(void) {
-    static const uint8_t both[10] = {0x22, 8, 0xFF, 0, 0, 1, 0x10, 0, 0, 2};
-    static const uint64_t min[6] = {KIND(WAKKEMOSUT_LABEL_MIN_DELAY, WAKKEMOSUT_SHAPE_U32, 0) + MARK, 103, 106, 1, 0, 0};
-    static const uint64_t max[6] = {KIND(WAKKEMOSUT_LABEL_MAX_DELAY, WAKKEMOSUT_SHAPE_U32, 0) + MARK, 107, 110, 2, 0, 0};
-    size_t at;
-    for (at = 0; at < sizeof RESERVED_CASES / sizeof *RESERVED_CASES; at++) {
-        check_marks(layout->walk, &RESERVED_CASES[at]);
-        check_marks(layout->push, &RESERVED_CASES[at]);
-    }
-    layout->clear(tape, MORE_WORDS, numbers);
-    CHECK(gave(WAKKEMOSUT_DONE, 0, 0, 0));
-    push_neighbor(both, sizeof both, MORE_WORDS);
-    CHECK(gave(WAKKEMOSUT_DONE, 10, 7, 7) && stands(5, min) && stands(6, max));
-    CHECK(reads(5, MORE_WORDS, min) && gave(WAKKEMOSUT_DONE, 0, 0, 0));
-    CHECK(reads(6, MORE_WORDS, max) && gave(WAKKEMOSUT_DONE, 0, 0, 0));
-    CHECK(layout->nest_test(tape, MORE_WORDS) == 1);
-}
-
 static void test_nest_test(void) {
     start_with_metric();
     CHECK(layout->nest_test(tape, WORDS) == 1);
@@ -609,8 +500,6 @@ static void test_tape(void) {
     test_walk();
     test_cut_back();
     test_read();
-    test_read_marked();
-    test_reserved();
     test_nest_test();
     test_siblings_listed();
     test_siblings_nested();
@@ -676,18 +565,6 @@ static void test_next(void) {
     CHECK(wakkemosut_next(7, leaf) == 8);
 }
 
-/* The parts of word 0, of words that no call leaves too. */
-static void test_kind(void) {
-    const uint64_t marked = KIND(WAKKEMOSUT_LABEL_DELAY, WAKKEMOSUT_SHAPE_U32, 5) + MARK;
-    CHECK(WAKKEMOSUT_RESERVED_MARK == MARK);
-    CHECK(WAKKEMOSUT_LABEL_OF(marked) == WAKKEMOSUT_LABEL_DELAY && WAKKEMOSUT_SHAPE_OF(marked) == WAKKEMOSUT_SHAPE_U32);
-    CHECK(WAKKEMOSUT_REGISTRY_OF(marked) == 5 && WAKKEMOSUT_RESERVED_OF(marked) == 1);
-    CHECK(WAKKEMOSUT_REGISTRY_OF(marked - MARK) == 5 && WAKKEMOSUT_RESERVED_OF(marked - MARK) == 0);
-    CHECK(WAKKEMOSUT_REGISTRY_OF(2 * MARK) == 32 && WAKKEMOSUT_RESERVED_OF(2 * MARK) == 0);
-    CHECK(WAKKEMOSUT_REGISTRY_OF(MARK - 1) == 15 && WAKKEMOSUT_RESERVED_OF(MARK - 1) == 0);
-    CHECK(WAKKEMOSUT_REGISTRY_OF(UINT64_MAX) == UINT64_C(0xFFFFFFFFFFEF) && WAKKEMOSUT_RESERVED_OF(UINT64_MAX) == 1);
-}
-
 static void test_is_container(void) {
     uint64_t shape;
     for (shape = WAKKEMOSUT_SHAPE_U8; shape <= WAKKEMOSUT_SHAPE_BYTES; shape++)
@@ -750,7 +627,6 @@ int main(void) {
     test_name();
     test_mask();
     test_next();
-    test_kind();
     test_is_container();
     test_bound();
     test_label_name();

@@ -40,8 +40,7 @@ options, anywhere behind area:
   --file FILE    reads OCTETS from a file, as a text in hex
   --binary FILE  reads the octets themselves from a file; '-' is standard input
   --records      shows every record in a line, as the library gives it: its
-                 octets from the first to the one past the last, its number,
-                 and whether reserved bits before the number are set
+                 octets from the first to the one past the last, its number
   --json         shows the records as a JSON object, for programs
   --             ends the options
   -h, --help     shows this page

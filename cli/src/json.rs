@@ -51,9 +51,6 @@ fn add_record(text: &mut String, pushed: &Pushed<'_>, record: &Record<'_>) -> Re
     } else {
         text.push_str(&value(pushed, record));
     }
-    if record.reserved_set {
-        text.push_str(r#","reserved_set":true"#);
-    }
     text.push('}');
     Ok(())
 }

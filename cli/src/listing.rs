@@ -16,7 +16,7 @@ use crate::registries;
 use crate::style::Style;
 use entry::Lister;
 use layout::{Head, Layout, Row};
-pub use value::{RESERVED_SET, hex};
+pub use value::hex;
 
 /// The listing of an area.
 pub fn text(pushed: &Pushed<'_>, style: Style) -> Result<String, Refusal> {

@@ -3,14 +3,12 @@
 use wakkemosut::{Position, Record, Refusal, Trees, Value};
 
 use crate::area::Pushed;
-use crate::listing::RESERVED_SET;
 
 /// The column at which octets stand.
 const OCTETS_COLUMN: usize = 34;
 
 /// The octets covered and the count of records; then each record, those inside another one further
-/// in: its label, its first octet and the one past its last, its number if it has one, and whether
-/// reserved bits before that are set.
+/// in: its label, its first octet and the one past its last, and its number if it has one.
 pub fn text(pushed: &Pushed<'_>) -> Result<String, Refusal> {
     let laid = pushed.laid;
     let mut text = format!(
@@ -44,15 +42,7 @@ fn line(pushed: &Pushed<'_>, record: &Record<'_>, depth: usize) -> String {
         Some(Value::Number(number)) => format!("  {number}"),
         _ => String::new(),
     };
-    let reserved = if record.reserved_set {
-        format!("  {RESERVED_SET}")
-    } else {
-        String::new()
-    };
     let (label, octets) = (record.label, &record.octets);
     let (start, end) = (octets.start, octets.end);
-    format!(
-        "{:indent$}{label:<width$}{start}-{end}{number}{reserved}\n",
-        ""
-    )
+    format!("{:indent$}{label:<width$}{start}-{end}{number}\n", "")
 }

@@ -70,57 +70,6 @@ fn the_worked_area_has_the_records_of_its_page() {
     assert_eq!(records, WORKED_RECORDS);
 }
 
-/// A delay, and a minimum and a maximum delay: reserved bits before the first and the last are set.
-const RESERVED: &str = "21 04 C0 00 03 E8 22 08 80 00 00 01 20 00 00 02";
-
-#[test]
-fn reserved_bits_that_are_set_are_told_behind_the_number() {
-    let records = shown(&["area", "--records", "0", "100", RESERVED]);
-    let told: Vec<&str> = records
-        .lines()
-        .filter(|line| line.contains("delay"))
-        .collect();
-    let expected = [
-        "    delay                         103-106  1000  reserved bits set",
-        "    min_delay                     109-112  1",
-        "    max_delay                     113-116  2  reserved bits set",
-    ];
-    assert_eq!(told, expected);
-    assert_eq!(records.matches("reserved").count(), 2, "{records}");
-}
-
-#[test]
-fn reserved_bits_that_are_set_are_a_member_of_the_record() {
-    let json = shown(&["area", "--json", "0", "100", RESERVED]);
-    let object = Json::of(&json).expect("valid JSON");
-    let mut found = Vec::new();
-    all(object.member("records").unwrap(), &mut found);
-    let set = found
-        .iter()
-        .filter(|record| record.member("reserved_set").is_some());
-    let names = [
-        "position",
-        "label",
-        "shape",
-        "registry",
-        "start",
-        "end",
-        "number",
-        "reserved_set",
-    ];
-    let mut labels = Vec::new();
-    for record in set {
-        assert_eq!(record.names(), names);
-        assert_eq!(
-            record.member("reserved_set"),
-            Some(&Json::Word("true".into()))
-        );
-        labels.extend(record.member("label"));
-    }
-    let text = |text: &str| Json::Text(text.into());
-    assert_eq!(labels, [&text("delay"), &text("max_delay")]);
-}
-
 #[test]
 fn an_empty_area_has_no_records() {
     let records = shown(&["area", "--records", "4", "7", ""]);
@@ -199,14 +148,10 @@ fn add_lines(records: &Json, depth: usize, lines: &mut Vec<String>) {
             Some(_) => format!("  {}", text("number")),
             None => String::new(),
         };
-        let reserved = match record.member("reserved_set") {
-            Some(_) => "  reserved bits set",
-            None => "",
-        };
         let (indent, width) = (2 * depth, 34 - 2 * depth);
         let (label, start, end) = (text("label"), text("start"), text("end"));
         lines.push(format!(
-            "{:indent$}{label:<width$}{start}-{end}{number}{reserved}",
+            "{:indent$}{label:<width$}{start}-{end}{number}",
             ""
         ));
         if let Some(children) = record.member("children") {
@@ -219,7 +164,6 @@ fn add_lines(records: &Json, depth: usize, lines: &mut Vec<String>) {
 fn both_forms_say_the_same() {
     for (registry, octets) in [
         ("0", WORKED),
-        ("0", RESERVED),
         (
             "0",
             "06 04 C0 00 02 01 0C 10 20 01 0D B8 00 00 00 00 00 00 00 00 00 00 00 01 FF",
@@ -246,8 +190,7 @@ fn both_forms_say_the_same() {
         for (at, record) in found.iter().enumerate() {
             let names = ["position", "label", "shape", "registry", "start", "end"];
             assert_eq!(record.names()[..6], names);
-            let reserved = usize::from(record.member("reserved_set").is_some());
-            assert_eq!(record.names().len(), 7 + reserved, "{record:?}");
+            assert_eq!(record.names().len(), 7, "{record:?}");
             assert_eq!(
                 record.member("position"),
                 Some(&Json::Number(at.to_string()))

@@ -573,67 +573,6 @@ fn what_is_behind_the_fields_is_shown() {
 }
 
 #[test]
-fn reserved_bits_that_are_set_are_said_beside_the_number() {
-    for (octets, rows) in [
-        (
-            "21 04 01 00 03 E8",
-            [
-                "100 33 Unidirectional Link Delay 1000 µs (reserved bits set)",
-                "anomalous no",
-            ],
-        ),
-        (
-            "21 04 FF FF FF FF",
-            [
-                "100 33 Unidirectional Link Delay 16777215 µs or more (reserved bits set)",
-                "anomalous yes",
-            ],
-        ),
-        (
-            "24 04 C0 00 00 01",
-            [
-                "100 36 Unidirectional Link Loss 0.000003 % (reserved bits set)",
-                "anomalous yes",
-            ],
-        ),
-    ] {
-        assert_rows("0", octets, &rows);
-    }
-    for (octets, row) in [
-        ("23 04 80 00 00 0A", "10 µs (reserved bits set)"),
-        (
-            "23 04 01 00 00 00",
-            "0 µs (not measured) (reserved bits set)",
-        ),
-    ] {
-        let row = format!("100 35 Unidirectional Delay Variation {row}");
-        assert_rows("0", octets, &[&row]);
-    }
-}
-
-#[test]
-fn reserved_bits_are_said_at_the_right_one_of_two_delays() {
-    for (first, second, value) in [
-        ("80", "00", "min 1 µs, max 2 µs"),
-        ("40", "00", "min 1 µs (reserved bits set), max 2 µs"),
-        ("80", "01", "min 1 µs, max 2 µs (reserved bits set)"),
-        (
-            "81",
-            "80",
-            "min 1 µs (reserved bits set), max 2 µs (reserved bits set)",
-        ),
-    ] {
-        let rows = lines("0", &format!("22 08 {first} 00 00 01 {second} 00 00 02"));
-        let (last, line) = rows.split_last().expect("rows");
-        assert!(closed_up(last).starts_with("anomalous "), "{last}");
-        assert_eq!(
-            closed_up(&line.join(" ")),
-            format!("100 34 Min/Max Unidirectional Link Delay {value}")
-        );
-    }
-}
-
-#[test]
 fn nested_entries_are_further_in() {
     // An End SID whose inner area has a structure, an unknown type and an octet left over.
     let octets = "05 1F 00 00 01 20 01 0D B8 00 01 00 02 00 00 00 00 00 00 00 00 \

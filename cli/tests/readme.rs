@@ -37,7 +37,7 @@ fn outdented(line: &str) -> String {
 #[test]
 fn examples_print_what_the_page_says() {
     let examples = examples();
-    assert_eq!(examples.len(), 5);
+    assert_eq!(examples.len(), 4);
     for (words, printed) in examples {
         let said = said(&words);
         assert_eq!(said.out + &said.error, printed, "{words:?}");

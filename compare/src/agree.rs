@@ -11,7 +11,7 @@ use crate::model::{self, After};
 use crate::native::{self, Area, Outcome, Record};
 use crate::random::{Random, seed};
 use crate::shown::Shown;
-use crate::{marks, summary, tapes};
+use crate::{summary, tapes};
 
 /// A call on a tape.
 #[derive(Clone, Copy, Debug, PartialEq, Eq, PartialOrd, Ord)]
@@ -175,12 +175,12 @@ fn rooms(needed: usize) -> Vec<usize> {
     rooms
 }
 
-/// Asserts what a walk or a push gives and leaves, but for the mark of reserved bits in the records
-/// that it writes, that the area stays, and that a nest stays one. Gives the answer.
+/// Asserts what a walk or a push gives and leaves, that the area stays, and that a nest stays one.
+/// Gives the answer.
 fn assert_append(
     name: Arguments<'_>,
     layout: Layout,
-    call: impl FnOnce(Layout, Area<'_>, &mut [u64]) -> Outcome,
+    call: fn(Layout, Area<'_>, &mut [u64]) -> Outcome,
     area: Area<'_>,
     tape: &[u64],
     expected: &After,
@@ -189,9 +189,7 @@ fn assert_append(
     let before = octets.clone();
     let answer = assert_change(name, layout, tape, expected, |layout, lent| {
         let octets = octets.middle();
-        let given = call(layout, Area { octets, ..area }, lent);
-        marks::take_off(layout, lent, marks::written(tape, expected.outcome));
-        given
+        call(layout, Area { octets, ..area }, lent)
     });
     // The compiler may take it that lent octets stay; here they are looked at.
     let octets = black_box(octets);

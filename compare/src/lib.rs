@@ -10,7 +10,6 @@ pub mod layout;
 pub mod lent;
 #[allow(unsafe_code)]
 pub mod mapped;
-pub mod marks;
 pub mod model;
 #[allow(unsafe_code)]
 pub mod native;

@@ -1,8 +1,7 @@
-//! The calls on a tape, as the texts of document 01 and, for the slim layout and the mark of reserved
-//! bits, of document 02 have them.
+//! The calls on a tape, as the texts of document 01 and, for the slim layout, of document 02 have
+//! them.
 
 use crate::layout::{HEADER, Layout};
-use crate::marks;
 use crate::native::{Outcome, Record};
 
 /// The greatest number of containers in each other, the outermost counted.
@@ -121,10 +120,9 @@ fn sound_record(layout: Layout, tape: &[u64], at: u64) -> Result<Record, u64> {
     if is_sound(record) { Ok(record) } else { Err(8) }
 }
 
-/// Whether a read gives this record, whose word 0 is judged with the mark taken off.
+/// Whether a read gives this record.
 fn is_sound(record: Record) -> bool {
-    let [marked_kind, start, end, ..] = record;
-    let kind = marks::unmarked(marked_kind);
+    let [kind, start, end, ..] = record;
     let [label, shape, ..] = kind.to_le_bytes();
     label <= 56 && shape <= 8 && kind < 393_216 && start <= end
 }

@@ -1,7 +1,6 @@
 //! Random tapes, and arguments for the calls on them.
 
 use crate::layout::{HEADER, Layout};
-use crate::marks::MARK;
 use crate::native::Record;
 use crate::random::Random;
 
@@ -106,8 +105,8 @@ fn container(random: &mut Random, first_child: u64, end: u64) -> Record {
     record(random, shape, first_child, end)
 }
 
-/// A record with this shape and these last two words, now and then with the mark of reserved bits.
-/// The others are random, and every other time such that a read gives it, if its shape is one.
+/// A record with this shape and these last two words. The others are random,
+/// and every other time such that a read gives it, if its shape is one.
 fn record(random: &mut Random, shape: u64, first_child: u64, end: u64) -> Record {
     let number = random.number() >> 16;
     let any = random.pick(&[0, 1, 6, 1 << 16, 1 << 47, number]);
@@ -117,9 +116,8 @@ fn record(random: &mut Random, shape: u64, first_child: u64, end: u64) -> Record
     }
     let [label, above, start, length] = words;
     let kind = label + 256 * shape + 65_536 * above;
-    let mark = random.pick(&[0, 0, 0, MARK]);
     let past = start.wrapping_add(length);
-    [kind ^ mark, start, past, random.word(), first_child, end]
+    [kind, start, past, random.word(), first_child, end]
 }
 
 /// A header that is often right; the count is often that of the room, or near it.
@@ -151,8 +149,7 @@ fn likely_record(random: &mut Random, next: u64, room: u64) -> Record {
     let last = random.below(room + 2);
     let children = random.pick(&[(next, next), (next, last), (next, room), (0, last)]);
     let children = if is_container { children } else { (0, 0) };
-    let mark = random.pick(&[0, 0, 0, MARK]);
-    let kind = label + 256 * shape + 65_536 * registry + mark;
+    let kind = label + 256 * shape + 65_536 * registry;
     [kind, start, end, random.word(), children.0, children.1]
 }
 

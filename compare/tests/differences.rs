@@ -5,7 +5,6 @@ use std::collections::BTreeSet;
 
 use compare::cases::Comparison;
 use compare::layout::Layout;
-use compare::marks::{is_marked, unmarked};
 use compare::native::{self, Area};
 use compare::random::Random;
 use compare::{model, shown, tapes};
@@ -19,7 +18,6 @@ const BASE: u32 = 100;
 /// The inputs, each with its registry, and below it what is shown: the records in their order,
 /// each with its octets and the number that it has. An `entry` is an object with its type and its
 /// length; `/4` and `/5` name the registry of an inner walk. The array of the area is left out.
-/// `marked` is a record that has the mark of reserved bits in ours, and not in the Rust.
 const CASES: &str = "
 0: FF 00
     entry 100-102, value 102-102
@@ -161,16 +159,13 @@ const CASES: &str = "
     entry 100-115, flags 102-103 = 48, weight 103-104 = 0, neighbor_system_id 104-110
     sid 110-114 = 117964800, raw 114-115
 0: 21 04 7F 00 00 01
-    entry 100-106, anomalous 102-103 = 0, delay 103-106 = 1 marked
+    entry 100-106, anomalous 102-103 = 0, delay 103-106 = 1
 0: 24 04 7F 00 00 01
-    entry 100-106, anomalous 102-103 = 0, link_loss 103-106 = 1 marked
+    entry 100-106, anomalous 102-103 = 0, link_loss 103-106 = 1
 0: 22 08 7F 00 00 01 FF 00 00 02
-    entry 100-110, anomalous 102-103 = 0, min_delay 103-106 = 1 marked
-    max_delay 107-110 = 2 marked
-0: 22 08 80 00 00 01 01 00 00 02
-    entry 100-110, anomalous 102-103 = 1, min_delay 103-106 = 1, max_delay 107-110 = 2 marked
+    entry 100-110, anomalous 102-103 = 0, min_delay 103-106 = 1, max_delay 107-110 = 2
 0: 23 04 FF 00 00 01
-    entry 100-106, delay_variation 103-106 = 1 marked
+    entry 100-106, delay_variation 103-106 = 1
 0: 21 04 00 FF FF FF
     entry 100-106, anomalous 102-103 = 0, delay 103-106 = 16777215
 0: 22 08 00 00 00 02 00 00 00 01
@@ -440,11 +435,10 @@ struct Seen {
     registry: u8,
     octets: (u64, u64),
     number: u64,
-    is_marked: bool,
 }
 
 impl Seen {
-    /// A record with this name and without the mark.
+    /// A record with this name.
     fn named(name: &str, registry: u8, octets: (u64, u64), number: u64) -> Self {
         let labels = LABELS.split_whitespace().map(|word| word.split_once(':'));
         let mut labels = (0..).zip(labels.map(|parts| parts.expect("a name and a shape")));
@@ -456,7 +450,6 @@ impl Seen {
             registry,
             octets,
             number,
-            is_marked: false,
         }
     }
 
@@ -468,22 +461,19 @@ impl Seen {
             registry: record.registry,
             octets: (record.first, record.past_last),
             number: record.number,
-            is_marked: false,
         }
     }
 
     /// What a record on a tape says.
     fn of_tape(record: native::Record) -> Self {
-        let kind = unmarked(record[0]);
-        let [label, shape, registry, ..] = kind.to_le_bytes();
-        assert_eq!(kind >> 24, 0, "word 0 of {record:?}");
+        let [label, shape, registry, ..] = record[0].to_le_bytes();
+        assert_eq!(record[0] >> 24, 0, "word 0 of {record:?}");
         Self {
             label,
             shape,
             registry,
             octets: (record[1], record[2]),
             number: record[3],
-            is_marked: is_marked(record[0]),
         }
     }
 }
@@ -551,17 +541,7 @@ impl Case {
         [array].into_iter().chain(listed).collect()
     }
 
-    /// The records that the list has, none of them with the mark, as the Rust has none.
-    fn expected_unmarked(&self) -> Vec<Seen> {
-        let expected = self.expected().into_iter();
-        let unmarked = expected.map(|seen| Seen {
-            is_marked: false,
-            ..seen
-        });
-        unmarked.collect()
-    }
-
-    /// The records of a text such as `name/registry 100-101 = 7 marked`.
+    /// The records of a text such as `name/registry 100-101 = 7`.
     fn listed(&self, text: &str) -> Vec<Seen> {
         let (name, _) = text.split_once(' ').expect(text);
         let (name, registry) = match name.split_once('/') {
@@ -571,14 +551,9 @@ impl Case {
         if name == "entry" {
             return self.entry(registry, place(text));
         }
-        let (plain, is_marked) = match text.strip_suffix(" marked") {
-            Some(plain) => (plain, true),
-            None => (text, false),
-        };
-        let number = plain.split_once(" = ").map_or("0", |(_, number)| number);
+        let number = text.split_once(" = ").map_or("0", |(_, number)| number);
         let number = number.parse().expect(text);
-        let seen = Seen::named(name, registry, place(text), number);
-        vec![Seen { is_marked, ..seen }]
+        vec![Seen::named(name, registry, place(text), number)]
     }
 
     /// The object, the type and the length of an entry over these octets.
@@ -662,7 +637,7 @@ fn inputs(part: &'static str) -> Vec<(Option<u8>, &'static str)> {
 fn the_rust_shows_what_the_page_says() {
     for case in cases() {
         let given = by_rust(case.registry, &case.area());
-        assert_eq!(given, case.expected_unmarked(), "{}", case.input());
+        assert_eq!(given, case.expected(), "{}", case.input());
     }
 }
 
@@ -677,7 +652,7 @@ fn ours_shows_what_the_page_says() {
 }
 
 #[test]
-fn ours_is_the_rust_in_every_word_but_for_the_mark() {
+fn ours_is_the_rust_in_every_word() {
     for layout in Layout::ALL {
         let mut comparison = Comparison::new(layout, Random::new(1));
         for case in cases() {
@@ -685,22 +660,6 @@ fn ours_is_the_rust_in_every_word_but_for_the_mark() {
         }
         assert!(comparison.tally.calls() > 500);
     }
-}
-
-#[test]
-fn every_number_with_reserved_bits_before_it_has_an_input_that_is_marked() {
-    let cases = cases();
-    let records = cases.iter().flat_map(|case| &case.records);
-    let marked = records.filter(|text| text.ends_with(" marked"));
-    let names: BTreeSet<_> = marked.filter_map(|text| text.split(' ').next()).collect();
-    let numbers = [
-        "delay",
-        "min_delay",
-        "max_delay",
-        "delay_variation",
-        "link_loss",
-    ];
-    assert_eq!(names, BTreeSet::from(numbers));
 }
 
 #[test]

@@ -4,13 +4,14 @@
 use std::io::{Write, stderr};
 use std::ops::Range;
 
+use compare::cases;
 use compare::layout::{HEADER, Layout};
 use compare::mapped::Mapped;
 use compare::model::bare;
 use compare::native::{self, Area, Outcome, Record};
 use compare::random::Random;
 use compare::shown::{Shown, outcome};
-use compare::{cases, marks, tapes};
+use compare::tapes;
 
 /// The greatest number of records of a slim tape.
 const MOST_RECORDS: u64 = 4_294_967_295;
@@ -73,7 +74,7 @@ impl FarTape {
     }
 
     /// Asserts what a call gives, that it writes these records and their count, and nothing else
-    /// of what is looked at. The mark is taken off the records that it wrote.
+    /// of what is looked at.
     fn assert_call(
         &mut self,
         call: impl Fn(Layout, &mut [u64]) -> Outcome,
@@ -87,10 +88,8 @@ impl FarTape {
             let records = records.take(expected.written as usize);
             Layout::Slim.write_all(records, &mut last[place..]);
         }
-        let written = marks::written(&self.tape, expected);
         assert_eq!(call(Layout::Slim, &mut self.tape), expected);
         assert_eq!(self.tape[0], used + expected.written);
-        marks::take_off(Layout::Slim, &mut self.tape, written);
         assert!(self.seen() == (last, others), "words behind {used} records");
     }
 

@@ -4,7 +4,7 @@ use compare::agree::{Call, Tally};
 use compare::areas;
 use compare::layout::Layout;
 use compare::model;
-use compare::native::{self, Area};
+use compare::native::Area;
 use compare::random::Random;
 use compare::shown::Shown;
 use compare::tapes;
@@ -26,7 +26,7 @@ struct UsedTape {
 }
 
 impl UsedTape {
-    /// A random call that may write; the tape is left as by the library, with its marks.
+    /// A random call that may write; the tape is left as by the model.
     fn step(&mut self) {
         match self.random.below(16) {
             0 => self.clear(),
@@ -57,10 +57,10 @@ impl UsedTape {
         let shown = Shown::of(Area::new(registry, base, &octets));
         if is_walk {
             self.tally.walk(&shown, &self.tape);
-            native::walk(self.tally.layout(), shown.area, &mut self.tape);
+            self.tape = shown.walk(self.tally.layout(), &self.tape).tape;
         } else {
             self.tally.push(&shown, &self.tape);
-            native::push(self.tally.layout(), shown.area, &mut self.tape);
+            self.tape = shown.push(self.tally.layout(), &self.tape).tape;
         }
     }
 

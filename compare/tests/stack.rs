@@ -7,7 +7,7 @@ use compare::layout::Layout;
 use compare::model::{self, After};
 use compare::native::{self, Area, Outcome, Record};
 use compare::shown::{MOST_OCTETS, Shown, bound};
-use compare::{marks, tapes};
+use compare::tapes;
 
 /// The octets of the stack on which the library runs.
 const STACK: usize = 64 * 1024;
@@ -81,21 +81,14 @@ fn assert_great(records: &[Record], nest: bool, answers: [u64; 2]) {
 /// A walk or a push.
 type Append = fn(Layout, Area<'_>, &mut [u64]) -> Outcome;
 
-/// What a walk or a push gives and leaves, run on a small stack, the mark taken off the records that
-/// it wrote.
+/// What a walk or a push gives and leaves, run on a small stack.
 fn append(call: Append, layout: Layout, area: Area<'_>, tape: &[u64]) -> After {
     let Area { registry, base, .. } = area;
-    let (octets, mut left) = (area.octets.to_vec(), tape.to_vec());
-    let mut after = on_small_stack(move || {
-        let outcome = call(layout, Area::new(registry, base, &octets), &mut left);
-        After {
-            outcome,
-            tape: left,
-        }
-    });
-    let written = marks::written(tape, after.outcome);
-    marks::take_off(layout, &mut after.tape, written);
-    after
+    let (octets, mut tape) = (area.octets.to_vec(), tape.to_vec());
+    on_small_stack(move || {
+        let outcome = call(layout, Area::new(registry, base, &octets), &mut tape);
+        After { outcome, tape }
+    })
 }
 
 /// Asserts what both calls give and leave for an area of the greatest length, of these octets over

@@ -95,28 +95,6 @@ fn every_label_shape_and_registry_is_printed() {
 }
 
 #[test]
-fn reserved_bits_are_set_before_numbers_that_are_printed() {
-    // A type, its least length, the place of an octet with reserved bits, and these (RFC 8570).
-    let places = [
-        (33, 4, 0, 0x7F),
-        (34, 8, 0, 0x7F),
-        (34, 8, 4, 0xFF),
-        (35, 4, 0, 0xFF),
-        (36, 4, 0, 0x7F),
-    ];
-    for (t, least, at, reserved) in places {
-        let set = pushes().filter(|(registry, _, area)| match area {
-            [one, length, value @ ..] if (*registry, *one) == (0, t) => {
-                let is_whole = (least..=value.len()).contains(&usize::from(*length));
-                is_whole && value[at] & reserved > 0
-            }
-            _ => false,
-        });
-        assert!(set.count() >= 3, "type {t}, octet {at}");
-    }
-}
-
-#[test]
 fn areas_stand_inside_areas() {
     for (outer, inner) in [(0, 4), (1, 4), (2, 5)] {
         let nested = INPUTS.iter().filter(|input| {

@@ -16,8 +16,7 @@
 //!   are in the packet, so that base is added to each place.
 //! - **tape**: the words that hold the records, lent by the caller. [`Tape`] has the calls.
 //! - **record**: one thing that was read, with its label (which field it is), its shape (what kind
-//!   of value), its octets and its number, and whether reserved bits before the number are set: a
-//!   [`Record`].
+//!   of value), its octets and its number: a [`Record`].
 //! - **position**: the place of a record on its tape, counted from 0: a [`Position`].
 //! - **container**: a record with others inside it, its children: an array or an object.
 //! - **covered**: the octets of the complete entries, from the area's first one on. The remainder,

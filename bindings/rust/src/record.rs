@@ -42,9 +42,6 @@ numbered! {
     }
 }
 
-/// What word 0 has more where reserved bits before the number are set.
-const RESERVED_MARK: u64 = 1_048_576;
-
 /// One record of a tape. What it shows is the same in both layouts, and records are equal where
 /// they show the same at the same position.
 ///
@@ -77,27 +74,6 @@ pub struct Record<'tape, L: Layout = Usual> {
     pub octets: Range<u64>,
     /// Its number; 0 where the shape carries none.
     pub number: u64,
-    /// Whether reserved bits before its number are set. RFC 8570 has such bits before delays, delay
-    /// variations and losses; no other record of a walk or push has this set. The number is the same
-    /// either way.
-    ///
-    /// ```
-    /// use wakkemosut::{Label, Registry, Tape};
-    ///
-    /// let mut words = [0; Tape::words_for(7)];
-    /// let mut tape = Tape::cleared(&mut words)?;
-    /// // A minimum and a maximum delay; a bit of the octet before the maximum is set.
-    /// tape.push(Registry::Neighbor, 100, &[34, 8, 0, 0, 3, 232, 1, 0, 7, 208])?;
-    /// let records = tape.records().collect::<Result<Vec<_>, _>>()?;
-    /// let set: Vec<Label> = records
-    ///     .iter()
-    ///     .filter(|record| record.reserved_set)
-    ///     .map(|record| record.label)
-    ///     .collect();
-    /// assert_eq!(set, [Label::MaxDelay]);
-    /// # Ok::<(), wakkemosut::Refusal>(())
-    /// ```
-    pub reserved_set: bool,
     /// A container's first child and the position past its last descendant; 0 to 0 for a leaf.
     /// They are what the words say, which on words from elsewhere may be anything;
     /// [`children`](Self::children) keeps to what is inside the container.
@@ -117,15 +93,7 @@ impl<'tape, L: Layout> Record<'tape, L> {
     ) -> Result<Self, Refusal> {
         let (words, numbers) = ffi::read::<L>(tape.words(), at.0);
         numbers.done()?;
-        let [
-            marked_kind,
-            start,
-            end,
-            number,
-            first_child,
-            descendants_end,
-        ] = words;
-        let kind = marked_kind & !RESERVED_MARK;
+        let [kind, start, end, number, first_child, descendants_end] = words;
         Ok(Self {
             position: at,
             label: Label::of(kind & 0xFF).expect("a record that is read has a label"),
@@ -133,7 +101,6 @@ impl<'tape, L: Layout> Record<'tape, L> {
             registry: Registry::of(kind >> 16).expect("a record that is read has a registry"),
             octets: start..end,
             number,
-            reserved_set: marked_kind != kind,
             descendants: Position(first_child)..Position(descendants_end),
             tape,
             row_end,
@@ -144,9 +111,8 @@ impl<'tape, L: Layout> Record<'tape, L> {
     #[must_use]
     pub const fn words(&self) -> [u64; 6] {
         let kind = self.label.number() + (self.shape.number() << 8);
-        let mark = if self.reserved_set { RESERVED_MARK } else { 0 };
         [
-            kind + (self.registry.number() << 16) + mark,
+            kind + (self.registry.number() << 16),
             self.octets.start,
             self.octets.end,
             self.number,
@@ -251,7 +217,6 @@ impl<L: Layout> fmt::Debug for Record<'_, L> {
         record.field("registry", &self.registry);
         record.field("octets", &self.octets);
         record.field("number", &self.number);
-        record.field("reserved_set", &self.reserved_set);
         record.field("descendants", &self.descendants);
         record.finish_non_exhaustive()
     }

@@ -11,9 +11,6 @@ use wakkemosut::{Layout, Position, Record, Refusal, Registry, Tape, most_records
 /// How many tapes each test goes down on.
 const TAPES: usize = 5_000;
 
-/// The mark of reserved bits in a record's word 0.
-const MARK: u64 = 1_048_576;
-
 /// A source of numbers that are the same in every run (splitmix64).
 struct Random(u64);
 
@@ -48,21 +45,20 @@ impl Random {
         self.position(records) + (upper << 32)
     }
 
-    /// The six words of the next record: most are containers, some are none, some have the mark.
+    /// The six words of the next record: most are containers, some are none.
     fn record(&mut self, records: u64) -> [u64; 6] {
         let shape = self.pick(&[0, 6, 7, 7, 7, 8, 8, 8, 9]);
-        let kind = 256 * shape + self.pick(&[0, 0, MARK]);
         let (first, end) = (self.position(records), self.position(records));
-        [kind, self.below(3), 2, self.below(9), first, end]
+        [256 * shape, self.below(3), 2, self.below(9), first, end]
     }
 }
 
 /// What going down meets: a record at a position, or a refusal.
 type Met = Result<u64, Refusal>;
 
-/// The shape of a record of [`Random::record`].
-fn shape(words: [u64; 6]) -> u64 {
-    words[0] % MARK / 256
+/// Whether six words are a record of [`Random::record`].
+fn is_record(words: [u64; 6]) -> bool {
+    words[0] <= 256 * 8
 }
 
 /// What going down a row of these records is to meet. A container's children are from its first
@@ -72,14 +68,14 @@ fn expected(records: &[[u64; 6]], row: Range<u64>, met: &mut Vec<Met>) {
     let mut at = row.start;
     while at < row.end {
         let record = records[at as usize];
-        if shape(record) > 8 {
+        if !is_record(record) {
             met.push(Err(Refusal::NoRecord));
             return;
         }
         met.push(Ok(at));
         let (behind, end) = (at + 1, record[5]);
         at = behind;
-        if shape(record) >= 7 {
+        if record[0] >= 256 * 7 {
             expected(records, record[4].max(behind)..end.min(row.end), met);
             at = behind.max(end);
         }
@@ -162,9 +158,7 @@ fn going_down_on_damaged_words_ends<L: Layout>() {
     for _ in 0..TAPES {
         let mut words = sound.clone();
         for _ in 0..1 + random.below(4) {
-            let at = random.below(used) as usize;
-            let other = random.word(count);
-            words[at] = random.pick(&[words[at] ^ MARK, other]);
+            words[random.below(used) as usize] = random.word(count);
         }
         let tape = Tape::<L>::in_layout(&mut words);
         let met = all_met(&tape, 0);

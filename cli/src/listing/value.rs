@@ -13,9 +13,6 @@ const GREATEST_DELAY: u64 = 16_777_215;
 /// The loss that stands for itself and all above (RFC 8570).
 const GREATEST_LOSS: u64 = 16_777_214;
 
-/// What is said of a number with reserved bits before it that are set (RFC 8570).
-pub const RESERVED_SET: &str = "reserved bits set";
-
 /// Fields that say something only together, and so stand in one line: each with its word there.
 const TOGETHER: [(Label, &str); 8] = [
     (Label::LocalIdentifier, "local"),
@@ -33,7 +30,7 @@ pub fn text(pushed: &Pushed<'_>, entry: &Entry<'_>, field: &Record<'_>) -> Resul
     Ok(match field.value_in(pushed.octets, pushed.base) {
         Some(Value::Number(_)) if word_of(field.label).is_some() => together(entry),
         Some(Value::Number(number)) if field.label == Label::Sid => sid(number, field),
-        Some(Value::Number(_)) => number_text(entry, field),
+        Some(Value::Number(number)) => number_text(entry, field.label, number),
         Some(Value::Ipv4(address)) => address.to_string(),
         Some(Value::Ipv6(address)) => address.to_string(),
         Some(Value::Bytes(bytes)) => octets_text(field.label, bytes),
@@ -61,19 +58,8 @@ fn word_of(label: Label) -> Option<&'static str> {
     found.map(|(_, word)| *word)
 }
 
-/// The number of a field, and whether reserved bits before it are set.
-fn number_text(entry: &Entry<'_>, field: &Record<'_>) -> String {
-    let number = labelled(entry, field.label, field.number);
-    let reserved = if field.reserved_set {
-        format!(" ({RESERVED_SET})")
-    } else {
-        String::new()
-    };
-    number + &reserved
-}
-
 /// A number, as what its label says that it is.
-fn labelled(entry: &Entry<'_>, label: Label, number: u64) -> String {
+fn number_text(entry: &Entry<'_>, label: Label, number: u64) -> String {
     let flags = |bits| flags::text(entry.registry, entry.kind, number, bits);
     match label {
         Label::Flags => flags(8),
@@ -149,7 +135,7 @@ fn yes_or_no(bit: u64) -> &'static str {
 /// parts have their unit once, behind the last.
 fn together(entry: &Entry<'_>) -> String {
     let part = |field: &Record<'_>| {
-        let number = number_text(entry, field);
+        let number = number_text(entry, field.label, field.number);
         Some(format!("{} {number}", word_of(field.label)?))
     };
     let parts: Vec<String> = entry.fields.iter().filter_map(part).collect();

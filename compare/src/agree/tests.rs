@@ -1,10 +1,6 @@
 //! What the comparison sees, and that it counts.
 
-use std::panic::catch_unwind;
-
 use super::*;
-use crate::layout::HEADER;
-use crate::marks::MARK;
 use crate::shown::outcome;
 
 /// An area of one octet.
@@ -98,7 +94,7 @@ fn every_room_has_answers_0_and_5() {
 }
 
 /// Asserts that a call appends what a push of one octet appends.
-fn assert_push(layout: Layout, call: impl FnOnce(Layout, Area<'_>, &mut [u64]) -> Outcome) {
+fn assert_push(layout: Layout, call: fn(Layout, Area<'_>, &mut [u64]) -> Outcome) {
     let tape = tapes::with_room(&mut Random::new(1), layout, &tapes::leaves(1), 3);
     let expected = Shown::of(LONE_OCTET).push(layout, &tape);
     let name = format_args!("the push");
@@ -109,50 +105,6 @@ fn assert_push(layout: Layout, call: impl FnOnce(Layout, Area<'_>, &mut [u64]) -
 fn a_push_that_is_as_expected_passes() {
     for layout in Layout::ALL {
         assert_push(layout, native::push);
-    }
-}
-
-/// Asserts that a push comes out as expected where these bits of a word of a record are flipped
-/// behind it. The records at 1 and 2 are the push's own.
-fn assert_flipped(layout: Layout, at: usize, word: usize, bits: u64) {
-    assert_push(layout, |layout, area, tape| {
-        let given = native::push(layout, area, tape);
-        tape[HEADER + layout.record_words() * at + word] ^= bits;
-        given
-    });
-}
-
-/// Asserts that flipping these bits is seen, in both layouts.
-fn assert_seen(at: usize, word: usize, bits: u64) {
-    for layout in Layout::ALL {
-        let flipped = catch_unwind(|| assert_flipped(layout, at, word, bits));
-        assert!(flipped.is_err(), "{layout}, record {at}, word {word}");
-    }
-}
-
-#[test]
-fn the_mark_of_a_record_of_the_push_is_ignored() {
-    for layout in Layout::ALL {
-        assert_flipped(layout, 1, 0, MARK);
-        assert_flipped(layout, 2, 0, MARK);
-    }
-}
-
-#[test]
-fn the_mark_of_a_record_before_the_push_or_behind_it_is_seen() {
-    assert_seen(0, 0, MARK);
-    assert_seen(3, 0, MARK);
-}
-
-#[test]
-fn every_other_bit_of_a_record_of_the_push_is_seen() {
-    for bit in (0..64).filter(|bit| 1 << bit != MARK) {
-        assert_seen(1, 0, 1 << bit);
-        assert_seen(2, 0, MARK + (1 << bit));
-    }
-    for word in 1..4 {
-        assert_seen(1, word, MARK);
-        assert_seen(2, word, MARK);
     }
 }
 

@@ -235,24 +235,6 @@ fn a_record_that_says_nothing_is_answer_8() {
 }
 
 #[test]
-fn a_record_with_the_mark_is_judged_without_it() {
-    let sound = [0, 56, 8 * 256, 5 * 65_536, 5 * 65_536 + 8 * 256 + 56];
-    let wrong = [57, 9 * 256, 393_216, 15 * 65_536, 1 << 21, 1 << 32, 1 << 63];
-    for layout in Layout::ALL {
-        for kind in sound {
-            let record = [kind + 1_048_576, 1, 2, 3, 4, 5];
-            assert_eq!(read_lone(layout, record), (record, bare(0)));
-        }
-        for kind in wrong {
-            let given = read_lone(layout, [kind + 1_048_576, 1, 2, 3, 4, 5]);
-            assert_eq!(given, ([0; 6], bare(8)));
-        }
-        let given = read_lone(layout, [1_048_576, 3, 2, 3, 4, 5]);
-        assert_eq!(given, ([0; 6], bare(8)));
-    }
-}
-
-#[test]
 fn a_record_just_inside_the_limits_is_read() {
     let last_of_all = 5 * 65_536 + 8 * 256 + 56;
     for layout in Layout::ALL {

@@ -3,7 +3,7 @@
 use std::collections::BTreeSet;
 
 use super::*;
-use crate::{marks, model};
+use crate::model;
 
 /// Numbers at the limits of half a word.
 const HALVES: [u64; 4] = [0, 1, 4_294_967_294, 4_294_967_295];
@@ -59,33 +59,6 @@ fn a_full_tape_has_the_words_of_its_records() {
     let slim = full(Layout::Slim, &records);
     let places = [12_884_901_890, 25_769_803_781];
     assert_eq!(slim, [2, 4, 4, 0, 1, places[0], 4, places[1], 0, 0, 0, 0]);
-}
-
-/// Asserts that some of these tapes' records with the mark are read, and some are not.
-fn assert_marks(layout: Layout, tapes: impl Iterator<Item = Vec<u64>>) {
-    let mut answers = [0, 0];
-    for tape in tapes {
-        let records = model::used_records(layout, &tape).into_iter().flatten();
-        for (at, record) in (0..).zip(records) {
-            let is_read = model::read(layout, &tape, at).1.answer == 0;
-            answers[usize::from(is_read)] += u32::from(marks::is_marked(record[0]));
-        }
-    }
-    assert!(answers.iter().all(|count| *count > 200), "{answers:?}");
-}
-
-#[test]
-fn marks_are_met_on_records_that_are_read_and_on_others() {
-    for layout in Layout::ALL {
-        let mut random = Random::new(1);
-        let forests = (0..1_000).map(|_| {
-            let forest = forest(&mut random, layout, 30, 4);
-            full(layout, &forest)
-        });
-        assert_marks(layout, forests);
-        let noises = (0..2_000).map(|_| noise(&mut random, layout, 60));
-        assert_marks(layout, noises);
-    }
 }
 
 /// Asserts that word 1 and word 3 each have every two limits in their halves, in some of these

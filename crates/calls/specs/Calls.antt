@@ -3,7 +3,7 @@ use Rattle.std.specs.Prelude.{◌≡◌, Bool, true, ◌&&◌, cond, List, [], �
 use Rattle.std.proofs.lemmas.List.Edits.{sets}
 use Rattle.outcome.specs.Call.{After, done, refused, refusal, finished, numbers_of}
 use Rattle.calls.specs.Limits.{last_label, last_shape, last_registry}
-use Rattle.tape.specs.Record.{label_of, shape_of, unmarked, zeros, words}
+use Rattle.tape.specs.Record.{label_of, shape_of, zeros, words}
 use Rattle.tape.specs.Layout.{width}
 use Rattle.tape.specs.Tape.{used, headed, with_used, record_at, load}
 use Rattle.tape.specs.declared.Record.{Record}
@@ -38,9 +38,9 @@ cut_back_call slim t mark =
 
 -- read
 
--- not over 56 as label, not over 8 as shape, word 0 with the mark taken off below 393,216 (registry not over 5), start not after end
+-- not over 56 as label, not over 8 as shape, word 0 below 393,216 (registry not over 5), start not after end
 unfoldable pub readable : Record → Bool
-readable r = leb (label_of r) last_label && (leb (shape_of r) last_shape && (ltb (unmarked r) (65536 * suc last_registry) && leb r.start.0 r.end.0))
+readable r = leb (label_of r) last_label && (leb (shape_of r) last_shape && (ltb r.tag (65536 * suc last_registry) && leb r.start.0 r.end.0))
 
 -- what a refused read gives: a record of six zeros
 abbrev pub no_record : ℕ → Reading

@@ -80,7 +80,7 @@ fn is_readable(r: Record) -> bool
     if LAST_SHAPE < r.shape() {
         return false;
     }
-    if 65536 * (LAST_REGISTRY + 1) <= r.unmarked() {
+    if 65536 * (LAST_REGISTRY + 1) <= r.tag {
         return false;
     }
     r.start.0 <= r.end.0

@@ -1,6 +1,6 @@
 -- How many records a value becomes, by the numbers of its row.
 use Rattle.std.specs.Prelude.{◌≡◌, cond, List, [], ◌∷◌, ℕ, ◌+◌, ◌*◌, ◌≤◌, leb, length}
-use Rattle.meaning.specs.Field.{Field, part, reserved, flag, sid, array, tail, push, ranges}
+use Rattle.meaning.specs.Field.{Field, part, flag, sid, array, tail, push, ranges}
 use Rattle.tape.specs.Forest.{size}
 use Rattle.meaning.specs.Cut.{pieces, total, each}
 use Rattle.meaning.specs.Frame.{range_length, covered}
@@ -21,7 +21,6 @@ row_records least shows takes n = cond (leb least n) (shows + rest takes n) 1
 -- the most octets that a plain field takes
 abbrev pub most : Field → ℕ
 most (part label shape at width) = at + width
-most (reserved bits label at) = at + 3
 most (flag label mask) = 1
 most (sid at) = at + 4
 most (array label span element) = 0

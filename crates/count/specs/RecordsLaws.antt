@@ -9,7 +9,7 @@ use Rattle.meaning.specs.Tree.{raw}
 use Rattle.meaning.specs.AreaLaws.{raw_none, raw_some}
 use Rattle.meaning.specs.Sid.{sid_end}
 use Rattle.meaning.specs.SidLaws.{sid_four_end, sid_three_end}
-use Rattle.meaning.specs.Field.{Field, part, reserved, flag, sid, array, tail, push}
+use Rattle.meaning.specs.Field.{Field, part, flag, sid, array, tail, push}
 use Rattle.meaning.specs.Value.{Walk, field_end, taken, fields_trees, value_trees}
 use Rattle.readings.specs.Plain.{Plain, size_plain}
 use Rattle.count.specs.Records.{rest, takes, plain_records}
@@ -33,7 +33,6 @@ rest_most takes n = go (leb n takes)
 -- the fields after the first one
 pub behind : (v : List ℕ) (f : Field) (fs : List Field) → Plain v (f ∷ fs) → Plain v fs
 behind v (part label shape at width) fs p = p
-behind v (reserved bits label at) fs p = p
 behind v (flag label mask) fs p = p
 behind v (sid at) fs p = p.1
 behind v (array label span element) fs p = absurd p
@@ -52,7 +51,6 @@ sid_rest v at there = go (dec_le (at + 4) (length v))
 rest_taken : (v : List ℕ) (f : Field) (fs : List Field) → Plain v (f ∷ fs) → rest (taken v (f ∷ fs)) (length v) ≡ rest (takes (f ∷ fs)) (length v)
 unfolding taken field_end
 rest_taken v (part label shape at width) [] p = refl
-rest_taken v (reserved bits label at) [] p = refl
 rest_taken v (flag label mask) [] p = refl
 rest_taken v (sid at) [] p = sid_rest v at p.0
 rest_taken v (array label span element) [] p = absurd p

@@ -5,7 +5,7 @@ use Rattle.std.proofs.Math.Decide.{dec_le}
 use Rattle.std.proofs.lemmas.Bool.{lt-leb}
 use Rattle.tape.specs.Forest.{none, size, ◌⧺◌}
 use Rattle.tape.specs.ForestLaws.{size-⧺}
-use Rattle.meaning.specs.Field.{Field, part, reserved, flag, sid, array, tail, push}
+use Rattle.meaning.specs.Field.{Field, part, flag, sid, array, tail, push}
 use Rattle.meaning.specs.Table.{table, usual}
 use Rattle.meaning.specs.TableLaws.{least_in, fields_in, OneRow}
 use Rattle.meaning.specs.Tree.{raw}
@@ -48,7 +48,6 @@ unknown_counts walk registry kind v none_read = record { few = omega arith; reco
 -- the first of plain fields
 first_plain : (v : List ℕ) (f : Field) (fs : List Field) → Plain v (f ∷ fs) → Plain v (f ∷ [])
 first_plain v (part label shape at width) fs p = tt
-first_plain v (reserved bits label at) fs p = tt
 first_plain v (flag label mask) fs p = tt
 first_plain v (sid at) fs p = (p.0, tt)
 first_plain v (array label span element) fs p = absurd p

@@ -1,11 +1,10 @@
 -- What functions that lay the fields of a value promise.
 use Rattle.std.specs.Prelude.{◌≡◌, Bool, cond, List, ℕ, ◌+◌, ◌%◌, ◌^◌, leb, length}
 use Rattle.octets.specs.BigEndian.{big_endian}
-use Rattle.octets.specs.Reserved.{mark_before}
 use Rattle.tape.specs.Forest.{Forest, none, leaf, node}
 use Rattle.tape.specs.Laid.{Laid, Used, was}
 use Rattle.tape.specs.declared.Position.{Position}
-use Rattle.meaning.specs.Tree.{content, marked}
+use Rattle.meaning.specs.Tree.{content}
 use Rattle.meaning.specs.Cut.{pieces, total, each}
 use Rattle.meaning.specs.Frame.{whole, range_length}
 use Rattle.meaning.specs.Field.{msds, ranges}
@@ -20,10 +19,6 @@ pub record Shows (slim : Bool) (octets : ℕ) (trees : Forest) (t u : List ℕ) 
 -- a function lays trees on a tape, from position at on, and gives the octet up to which they go and the position after them
 abbrev pub LaysUpTo : Bool → ℕ → Forest → Used → Position → Shown → Type 0
 LaysUpTo slim octets trees tape at r = Shows slim octets trees (was tape) tape.exit.now at.0 r
-
--- a number of 24 bits from a place on, marked by the reserved bits before it: label, place, bits
-abbrev pub number24_at : ℕ → ℕ → ℕ → ℕ → List ℕ → ℕ → Forest
-number24_at label at bits registry v base = leaf (marked (mark_before bits v at) label 2 registry (base + at) (base + at + 3) (big_endian v at 3)) none
 
 -- how many octets a SID has, where 3 are left or more ..
 abbrev pub sid_width : List ℕ → ℕ → ℕ

@@ -38,7 +38,6 @@ pub fn container(
         label,
         shape,
         registry: source.registry,
-        mark: 0,
         start: Octet(start),
         end: Octet(start + width),
         number: 0,
@@ -165,7 +164,7 @@ fn range(
 {
     let n = octets.len();
     let first = Position(position.0 + 1);
-    let second = number24(octets, source, Label::RANGE_SIZE, 0, 0, tape, slim, first);
+    let second = number24(octets, source, Label::RANGE_SIZE, 0, tape, slim, first);
     let shown = sid(octets, source, Label::RANGE_SID, 5, tape, slim, second);
     let next = shown.next;
     container(

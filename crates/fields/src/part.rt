@@ -1,10 +1,9 @@
 // Parts of a value: a number, an address or plain octets, a bit.
-ghost use Rattle.std.specs.Prelude.{◌≡◌, true, ◌+◌, ◌*◌, ◌/◌, ◌%◌, ◌≤◌, ◌<◌, ◌^◌, length, get_or};
+ghost use Rattle.std.specs.Prelude.{◌≡◌, true, ◌+◌, ◌/◌, ◌%◌, ◌≤◌, ◌<◌, ◌^◌, length, get_or};
 ghost use Rattle.octets.specs.BigEndian.{big_endian, is_width};
 ghost use Rattle.tape.specs.Forest.{leaf, none};
 ghost use Rattle.tape.specs.Laid.{RoomFor, was, Lays};
 ghost use Rattle.meaning.specs.Tree.{content};
-ghost use Rattle.fields.specs.Shows.{number24_at};
 
 use crate::Source;
 use octets::read::{octet, read_be, read_be_u16, read_be_u24, read_be_u32};
@@ -32,7 +31,6 @@ pub fn part(
         label,
         shape,
         registry: source.registry,
-        mark: 0,
         start: Octet(start),
         end: Octet(start + width),
         number,
@@ -115,32 +113,31 @@ pub fn number16(
     )
 }
 
-// Lays the number in the 3 octets of a value from `at` on, marked where one of the `reserved` bits before it is set.
+// Lays the number in the 3 octets of a value from `at` on.
 pub fn number24(
     value: &[u8],
     source: Source,
     label: u8,
     at: usize,
-    reserved: usize,
     tape: &mut [u64],
     slim: bool,
     position: Position,
 ) -> Position
-    requires { (at + 3 ≤ length value.now) × (reserved ≤ 8) × (reserved ≤ 8 * at) × (source.base.0 + length value.now < 2 ^ 32) × RoomFor slim tape.old (position.0 + 1) }
-    ensures { Lays slim (number24_at label at reserved source.registry (was value) source.base.0) tape position result }
+    requires { (at + 3 ≤ length value.now) × (source.base.0 + length value.now < 2 ^ 32) × RoomFor slim tape.old (position.0 + 1) }
+    ensures { Lays slim (leaf (content label 2 source.registry (source.base.0 + at) (source.base.0 + at + 3) (big_endian (was value) at 3)) none) tape position result }
 {
-    let read = read_be_u24(value, at, reserved);
-    let start = source.base.0 + at;
-    let content = Content {
+    let number = read_be_u24(value, at) as u64;
+    part(
+        source,
         label,
-        shape: Shape::U32,
-        registry: source.registry,
-        mark: read.mark,
-        start: Octet(start),
-        end: Octet(start + 3),
-        number: read.number as u64,
-    };
-    lay::leaf(tape, slim, position, content)
+        Shape::U32,
+        at,
+        3,
+        number,
+        tape,
+        slim,
+        position,
+    )
 }
 
 // Lays the number in the 4 octets of a value from `at` on.
@@ -189,7 +186,6 @@ pub fn flag(
         label,
         shape: Shape::U8,
         registry: source.registry,
-        mark: 0,
         start: Octet(start),
         end: Octet(start + 1),
         number: bit as u64,

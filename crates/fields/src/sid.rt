@@ -30,7 +30,7 @@ fn read_sid(value: &[u8], at: usize) -> Numbered
         };
     }
     Numbered {
-        number: (read_be_u24(value, at, 0).number % 1048576) as u64,
+        number: (read_be_u24(value, at) % 1048576) as u64,
         width: 3,
     }
 }

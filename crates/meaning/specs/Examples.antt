@@ -2,7 +2,6 @@
 use Rattle.std.specs.Prelude.{◌≡◌, refl, Bool, true, false, List, [], ◌∷◌, map, ℕ, length}
 use Rattle.octets.specs.BigEndian.{big_endian}
 use Rattle.octets.specs.Mask.{kept, masked}
-use Rattle.octets.specs.Reserved.{mark_before}
 use Rattle.registry.specs.Registry.{registry_of}
 use Rattle.tape.specs.Layout.{word_of, room_of}
 use Rattle.tape.specs.Tape.{headed, put_at, store}
@@ -16,8 +15,8 @@ use Rattle.meaning.specs.Array.{element_trees, array_of}
 use Rattle.meaning.specs.Value.{field_end, taken, push_by, field_trees, fields_trees, value_trees}
 use Rattle.meaning.specs.Area.{entry_trees, walk_trees, inner_walk, walked, pushed}
 use Rattle.meaning.specs.AreaCall.{appended, fitted, call_in}
-use Rattle.meaning.specs.Examples.Example.{Case, computed, computed_unmarked, wanted, types_read}
-use Rattle.meaning.specs.Examples.Cases.{cases, others, slim_cases, marked_cases}
+use Rattle.meaning.specs.Examples.Example.{Case, computed, wanted, types_read}
+use Rattle.meaning.specs.Examples.Cases.{cases, others, slim_cases}
 use Rattle.meaning.specs.Examples.RustCases.{rust_cases, rust_types}
 pub mod Example
 pub mod Cases
@@ -31,14 +30,10 @@ HoldIn slim list = map (computed slim) list ≡ map (wanted slim) list
 abbrev pub Hold : List Case → Type 0
 Hold list = HoldIn false list × HoldIn true list
 
--- where marks are taken off what the definitions give
-abbrev pub HoldUnmarked : List Case → Type 0
-HoldUnmarked list = (map (computed_unmarked false) list ≡ map (wanted false) list) × (map (computed_unmarked true) list ≡ map (wanted true) list)
-
--- all at once: document 01's [P] cases, its others, slim tapes, reserved bits, and what the Rust of docs/src shows, which has no mark
-pub hold : Hold cases × Hold others × Hold slim_cases × Hold marked_cases × HoldUnmarked rust_cases
-unfolding cases others slim_cases marked_cases rust_cases big_endian mark_before kept masked registry_of word_of room_of headed put_at store ◌⧺◌ flat pieces_after pieces total each entry_length entries covered remainder range_length table fields_of usual raw sid_trees sid_end element_trees array_of field_end taken push_by field_trees fields_trees value_trees entry_trees walk_trees inner_walk walked pushed appended fitted call_in
-hold = ((refl, refl), (refl, refl), (refl, refl), (refl, refl), (refl, refl))
+-- all at once: document 01's [P] cases, its others, slim tapes, and what the Rust of docs/src shows
+pub hold : Hold cases × Hold others × Hold slim_cases × Hold rust_cases
+unfolding cases others slim_cases rust_cases big_endian kept masked registry_of word_of room_of headed put_at store ◌⧺◌ flat pieces_after pieces total each entry_length entries covered remainder range_length table fields_of usual raw sid_trees sid_end element_trees array_of field_end taken push_by field_trees fields_trees value_trees entry_trees walk_trees inner_walk walked pushed appended fitted call_in
+hold = ((refl, refl), (refl, refl), (refl, refl), (refl, refl))
 
 -- document 01's cases marked [P], one statement over one list
 pub examples : Hold cases

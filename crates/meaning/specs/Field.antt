@@ -21,8 +21,6 @@ pub data Element : Type 0 where
 pub data Field : Type 0 where
   -- label, shape, place, width: a number, an address or plain octets
   part : Label → Shape → ℕ → ℕ → Field
-  -- bits, label, place: so many reserved bits, the last of the octet before a place, and a number of 24 bits from there on
-  reserved : ℕ → Label → ℕ → Field
   -- label, mask: a bit of octet 0
   flag : Label → ℕ → Field
   -- a SID, from a place on

@@ -1,8 +1,8 @@
--- Document 01's table of the registries, line by line, with the reserved bits of 02's request 04, and the reading that it gives.
+-- Document 01's table of the registries, line by line, and the reading that it gives.
 use Rattle.std.specs.Prelude.{◌&&◌, cond, List, [], ◌∷◌, ℕ, leb, eqb, length}
 use Rattle.meaning.specs.Label
 use Rattle.meaning.specs.Shape.{u8, u16, u32, u64, ipv4, ipv6, bytes}
-use Rattle.meaning.specs.Field.{Field, part, reserved, flag, sid, array, tail, push, from, first, numbers, msds, ranges, Row, row, Plan}
+use Rattle.meaning.specs.Field.{Field, part, flag, sid, array, tail, push, from, first, numbers, msds, ranges, Row, row, Plan}
 
 -- the types 37 through 39 share one reading
 abbrev bandwidth : List Field
@@ -43,14 +43,14 @@ table =
     row 0 31 5 (part Label.flags u8 0 1 ∷ part Label.weight u8 1 1 ∷ sid 2 ∷ []) ∷
     -- RFC 8667, section 2.2.2, LAN-Adj-SID: Flags | Weight | Neighbor System-ID | SID/Label/Index
     row 0 32 11 (part Label.flags u8 0 1 ∷ part Label.weight u8 1 1 ∷ part Label.neighborSystemId bytes 2 6 ∷ sid 8 ∷ []) ∷
-    -- RFC 8570, section 4.1, link delay: A | RESERVED (7) | Delay
-    row 0 33 4 (flag Label.anomalous 0x80 ∷ reserved 7 Label.delay 1 ∷ []) ∷
-    -- RFC 8570, section 4.4, link loss: A | RESERVED (7) | Link Loss
-    row 0 36 4 (flag Label.anomalous 0x80 ∷ reserved 7 Label.linkLoss 1 ∷ []) ∷
-    -- RFC 8570, section 4.2, min/max link delay: A | RESERVED (7) | Min Delay | RESERVED (8) | Max Delay
-    row 0 34 8 (flag Label.anomalous 0x80 ∷ reserved 7 Label.minDelay 1 ∷ reserved 8 Label.max_delay 5 ∷ []) ∷
-    -- RFC 8570, section 4.3, delay variation: RESERVED (8) | Delay Variation
-    row 0 35 4 (reserved 8 Label.delayVariation 1 ∷ []) ∷
+    -- RFC 8570, section 4.1, link delay: A | RESERVED | Delay
+    row 0 33 4 (flag Label.anomalous 0x80 ∷ part Label.delay u32 1 3 ∷ []) ∷
+    -- RFC 8570, section 4.4, link loss: A | RESERVED | Link Loss
+    row 0 36 4 (flag Label.anomalous 0x80 ∷ part Label.linkLoss u32 1 3 ∷ []) ∷
+    -- RFC 8570, section 4.2, min/max link delay: A | RESERVED | Min Delay | RESERVED | Max Delay
+    row 0 34 8 (flag Label.anomalous 0x80 ∷ part Label.minDelay u32 1 3 ∷ part Label.max_delay u32 5 3 ∷ []) ∷
+    -- RFC 8570, section 4.3, delay variation: RESERVED | Delay Variation
+    row 0 35 4 (part Label.delayVariation u32 1 3 ∷ []) ∷
     -- RFC 8570, section 4.5, residual bandwidth
     row 0 37 4 bandwidth ∷
     -- RFC 8570, section 4.6, available bandwidth

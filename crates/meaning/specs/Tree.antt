@@ -7,22 +7,14 @@ use Rattle.meaning.specs.Label
 use Rattle.meaning.specs.Label.{Label, number}
 use Rattle.meaning.specs.Shape.{Shape, bytes, Container, shape_number, container_number, has_number}
 
--- a record without positions: mark, label, shape, registry, first octet, one past the last, number
-abbrev pub marked : ℕ → ℕ → ℕ → ℕ → ℕ → ℕ → ℕ → Content
-marked mark label shape registry start end n =
-    record { label = label; shape = shape; registry = registry; mark = mark; start = record { 0 = start }; end = record { 0 = end }; number = n }
-
--- one without a mark
+-- a record without positions: label, shape, registry, first octet, one past the last, number
 abbrev pub content : ℕ → ℕ → ℕ → ℕ → ℕ → ℕ → Content
-content = marked 0
+content label shape registry start end n =
+    record { label = label; shape = shape; registry = registry; start = record { 0 = start }; end = record { 0 = end }; number = n }
 
--- a leaf: mark, label, shape, registry, first octet, one past the last, number
-abbrev pub one_marked : ℕ → Label → Shape → ℕ → ℕ → ℕ → ℕ → Forest
-one_marked mark label shape registry start end n = leaf (marked mark (number label) (shape_number shape) registry start end n) none
-
--- one without a mark
+-- a leaf: label, shape, registry, first octet, one past the last, number
 abbrev pub one : Label → Shape → ℕ → ℕ → ℕ → ℕ → Forest
-one = one_marked 0
+one label shape registry start end n = leaf (content (number label) (shape_number shape) registry start end n) none
 
 -- a container over trees: label, shape, registry, first octet, one past the last; its number is 0
 abbrev pub over : Label → Container → ℕ → ℕ → ℕ → Forest → Forest

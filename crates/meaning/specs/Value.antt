@@ -1,16 +1,14 @@
 -- What fields and values become. How an area inside a value is walked is a parameter.
 use Rattle.std.specs.Prelude.{cond, List, [], ◌∷◌, ℕ, ◌+◌, ◌/◌, ◌%◌, length, get_or, drop}
-use Rattle.octets.specs.BigEndian.{big_endian}
-use Rattle.octets.specs.Reserved.{mark_before}
 use Rattle.registry.specs.Registry.{number_of}
 use Rattle.registry.specs.declared.Registry.TheVariants.{Srv6Sid, Unregistered}
 use Rattle.tape.specs.Forest.{Forest, none, ◌⧺◌}
 use Rattle.meaning.specs.Label
-use Rattle.meaning.specs.Shape.{u8, u32, ipv6}
+use Rattle.meaning.specs.Shape.{u8, ipv6}
 use Rattle.meaning.specs.Cut.{total}
 use Rattle.meaning.specs.Frame.{covered, remainder}
-use Rattle.meaning.specs.Field.{Field, part, reserved, flag, sid, array, tail, push}
-use Rattle.meaning.specs.Tree.{one, one_marked, raw, value, number_in}
+use Rattle.meaning.specs.Field.{Field, part, flag, sid, array, tail, push}
+use Rattle.meaning.specs.Tree.{one, raw, value, number_in}
 use Rattle.meaning.specs.Sid.{sid_trees, sid_end}
 use Rattle.meaning.specs.Array.{start_of, elements, element_trees, array_of}
 use Rattle.meaning.specs.Tail.{length_at, inner_fits, inner}
@@ -18,7 +16,6 @@ use Rattle.meaning.specs.Tail.{length_at, inner_fits, inner}
 -- one past the last octet that a field of the value v takes
 unfoldable pub field_end : List ℕ → Field → ℕ
 field_end v (part label shape at width) = at + width
-field_end v (reserved bits label at) = at + 3
 field_end v (flag label mask) = 1
 field_end v (sid at) = sid_end v at
 field_end v (array label span element) = start_of span + total (elements span element v)
@@ -44,7 +41,6 @@ module _ (walk : Walk) (registry : ℕ) (v : List ℕ) (base : ℕ) where
   -- a field; v is the value, and base the place of v's first octet
   unfoldable pub field_trees : Field → Forest
   field_trees (part label shape at width) = one label shape registry (base + at) (base + at + width) (number_in shape v at width)
-  field_trees (reserved bits label at) = one_marked (mark_before bits v at) label u32 registry (base + at) (base + at + 3) (big_endian v at 3)
   field_trees (flag label mask) = one label u8 registry base (base + 1) (get_or v 0 0 / mask % 2)
   field_trees (sid at) = sid_trees Label.sid registry v base at
   field_trees (array label span element) =

@@ -1,36 +1,19 @@
--- Fields, case by case: a number behind reserved bits (document 02, request 04), and the SRv6 tail (document 01, 'SRv6 tail').
-use Rattle.std.specs.Prelude.{◌≡◌, List, [], ℕ, ◌+◌, ◌-◌, ◌%◌, ◌^◌, ◌≤◌, ◌<◌, length}
-use Rattle.std.proofs.Math.Path.{refl}
+-- The SRv6 tail, case by case (document 01, 'SRv6 tail').
+use Rattle.std.specs.Prelude.{◌≡◌, refl, List, [], ℕ, ◌+◌, ◌≤◌, ◌<◌, length}
 use Rattle.std.proofs.Common.{◌∙◌, arith}
 use borrow.Author.Tests.{le-leb, lt-leb}
 use Rattle.std.proofs.Math.ListN.{get_or}
-use Rattle.octets.specs.BigEndian.{big_endian}
-use Rattle.octets.specs.ReservedLaws.{mark_clear, mark_set}
 use Rattle.registry.specs.Registry.{number_of}
 use Rattle.registry.specs.declared.Registry.TheVariants.{Srv6Sid}
 use Rattle.tape.specs.Forest.{Forest, ◌⧺◌}
 use Rattle.meaning.specs.Label
-use Rattle.meaning.specs.Label.{Label}
-use Rattle.meaning.specs.Shape.{u32, ipv6}
+use Rattle.meaning.specs.Shape.{ipv6}
 use Rattle.meaning.specs.Frame.{covered}
 use Rattle.meaning.specs.FrameLaws.{covered_none}
-use Rattle.meaning.specs.Field.{part, reserved, tail}
-use Rattle.meaning.specs.Tree.{one, one_marked}
+use Rattle.meaning.specs.Field.{tail}
+use Rattle.meaning.specs.Tree.{one}
 use Rattle.meaning.specs.Tail.{inner}
 use Rattle.meaning.specs.Value.{Walk, field_end, field_trees}
-
--- a number behind reserved bits, from a place of a value v on whose first octet is at base
-module _ (walk : Walk) (registry : ℕ) (v : List ℕ) (base bits : ℕ) (label : Label) (at : ℕ) where
-  -- none of them is set: it is as if there were none
-  pub reserved_clear : get_or v (at - 1) 0 % 2 ^ bits ≡ 0 → field_trees walk registry v base (reserved bits label at) ≡ field_trees walk registry v base (part label u32 at 3)
-  unfolding field_trees
-  reserved_clear clear = rw (mark_clear bits v at clear) refl
-
-  -- one of them is set: the same with the mark
-  pub reserved_set : (get_or v (at - 1) 0 % 2 ^ bits ≡ 0 → ⊥)
-      → field_trees walk registry v base (reserved bits label at) ≡ one_marked 1 label u32 registry (base + at) (base + at + 3) (big_endian v at 3)
-  unfolding field_trees
-  reserved_set set = rw (mark_set bits v at set) refl
 
 -- the tail of a value v, whose first octet is at base, from a place on
 module _ (walk : Walk) (registry : ℕ) (v : List ℕ) (base at : ℕ) where

@@ -67,7 +67,7 @@ fn number24_alone(value: &[u8], label: u8) -> OneLeaf
         is: true,
         label,
         shape: Shape::U32,
-        number: read_be_u24(value, 0, 0).number as u64,
+        number: read_be_u24(value, 0) as u64,
     }
 }
 

@@ -151,8 +151,8 @@ fn min_max_delay(
         };
     }
     let second = flag(value, source, Label::ANOMALOUS, 0x80, tape, slim, position);
-    let third = number24(value, source, Label::MIN_DELAY, 1, 7, tape, slim, second);
-    let next = number24(value, source, Label::MAX_DELAY, 5, 8, tape, slim, third);
+    let third = number24(value, source, Label::MIN_DELAY, 1, tape, slim, second);
+    let next = number24(value, source, Label::MAX_DELAY, 5, tape, slim, third);
     Decoded {
         taken: Taken::Octets(8),
         next,
@@ -245,21 +245,12 @@ pub fn neighbor(
         11 => unreserved_bandwidth(value, source, tape, slim, at),
         12 => ipv6(value, source, Label::IPV6_INTERFACE_ADDRESS, tape, slim, at),
         13 => ipv6(value, source, Label::IPV6_NEIGHBOR_ADDRESS, tape, slim, at),
-        18 => one_number24(
-            value,
-            source,
-            Label::TE_DEFAULT_METRIC,
-            0,
-            0,
-            tape,
-            slim,
-            at,
-        ),
+        18 => one_number24(value, source, Label::TE_DEFAULT_METRIC, 0, tape, slim, at),
         31 => octet_and_sid(value, source, Label::WEIGHT, tape, slim, at),
         32 => lan_adj_sid(value, source, tape, slim, at),
         33 => flag_and_number(value, source, Label::DELAY, tape, slim, at),
         34 => min_max_delay(value, source, tape, slim, at),
-        35 => one_number24(value, source, Label::DELAY_VARIATION, 1, 8, tape, slim, at),
+        35 => one_number24(value, source, Label::DELAY_VARIATION, 1, tape, slim, at),
         36 => flag_and_number(value, source, Label::LINK_LOSS, tape, slim, at),
         37..=39 => one_number32(value, source, Label::BANDWIDTH, tape, slim, at),
         _ => Decoded {

@@ -4,5 +4,3 @@ pub mod Copy
 pub mod CopyLaws
 pub mod Mask
 pub mod MaskLaws
-pub mod Reserved
-pub mod ReservedLaws

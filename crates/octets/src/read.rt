@@ -1,7 +1,6 @@
 // Big-endian reads of 2, 3, 4 and 8 octets, named as in the Rust. The caller shows that the octets are there.
-ghost use Rattle.std.specs.Prelude.{◌≡◌, true, ◌+◌, ◌*◌, ◌<◌, ◌≤◌, length};
+ghost use Rattle.std.specs.Prelude.{◌≡◌, true, ◌+◌, ◌<◌, ◌≤◌, length};
 ghost use Rattle.octets.specs.BigEndian.{big_endian, is_width};
-ghost use Rattle.octets.specs.Reserved.{mark_before};
 
 // The octet at `at`.
 pub fn octet(s: &[u8], at: usize) -> u8
@@ -19,35 +18,12 @@ pub fn read_be_u16(s: &[u8], at: usize) -> u16
     octet(s, at) as u16 * 256 + octet(s, at + 1) as u16
 }
 
-// 1 where one of the `reserved` bits before `at` is set, otherwise 0.
-fn mark_before(s: &[u8], at: usize, reserved: usize) -> u8
-    requires { (at < length s.now) × (reserved ≤ 8) × (reserved ≤ 8 * at) }
-    ensures { result ≡ mark_before reserved s.now at }
+// The number in the 3 octets from `at` on.
+pub fn read_be_u24(s: &[u8], at: usize) -> u32
+    requires { at + 3 ≤ length s.now }
+    ensures { (result ≡ big_endian s.now at 3) × (result < 16777216) }
 {
-    if reserved == 0 {
-        return 0;
-    }
-    let bits = octet(s, at - 1) as usize % (1 << reserved);
-    if bits == 0 { 0 } else { 1 }
-}
-
-// A number of 24 bits, and 1 where reserved bits before it are set, otherwise 0.
-#[derive(Drop)]
-pub struct Number24 {
-    pub number: u32,
-    pub mark: u8,
-}
-
-// The number in the 3 octets from `at` on, and whether one of the `reserved` bits before it is set.
-pub fn read_be_u24(s: &[u8], at: usize, reserved: usize) -> Number24
-    requires { (at + 3 ≤ length s.now) × (reserved ≤ 8) × (reserved ≤ 8 * at) }
-    ensures { (result.number ≡ big_endian s.now at 3) × (result.number < 16777216) × (result.mark ≡ mark_before reserved s.now at) }
-{
-    let mark = mark_before(s, at, reserved);
-    Number24 {
-        number: read_be_u16(s, at) as u32 * 256 + octet(s, at + 2) as u32,
-        mark,
-    }
+    read_be_u16(s, at) as u32 * 256 + octet(s, at + 2) as u32
 }
 
 // The number in the 4 octets from `at` on.
@@ -74,7 +50,7 @@ pub fn read_be(s: &[u8], at: usize, width: usize) -> u64
     match width {
         1 => octet(s, at) as u64,
         2 => read_be_u16(s, at) as u64,
-        3 => read_be_u24(s, at, 0).number as u64,
+        3 => read_be_u24(s, at) as u64,
         4 => read_be_u32(s, at) as u64,
         _ => read_be_u64(s, at),
     }

@@ -4,7 +4,7 @@ use Rattle.std.proofs.Common.{ap, ◌∙◌, arith}
 use Rattle.tape.specs.Forest.{Forest, size, ◌⧺◌}
 use Rattle.tape.specs.Laid.{Room, RoomFor}
 use Rattle.meaning.specs.Label
-use Rattle.meaning.specs.Field.{Field, part, reserved, flag, sid, array, tail, push}
+use Rattle.meaning.specs.Field.{Field, part, flag, sid, array, tail, push}
 use Rattle.meaning.specs.Table.{usual, table}
 use Rattle.meaning.specs.TableLaws.{least_in, fields_in, OneRow}
 use Rattle.meaning.specs.Value.{Walk, field_trees, fields_trees}
@@ -17,7 +17,6 @@ use Rattle.readings.specs.ReadingLaws.{row_fields}
 abbrev pub Plain : List ℕ → List Field → Type 0
 Plain v [] = Unit {0}
 Plain v (part label shape at width ∷ fs) = Plain v fs
-Plain v (reserved bits label at ∷ fs) = Plain v fs
 Plain v (flag label mask ∷ fs) = Plain v fs
 Plain v (sid at ∷ fs) = (at + 3 ≤ length v) × Plain v fs
 Plain v (array label span element ∷ fs) = ⊥
@@ -29,7 +28,6 @@ pub size_plain : (walk : Walk) (registry : ℕ) (v : List ℕ) (base : ℕ) (fs 
 unfolding field_trees fields_trees ◌⧺◌
 size_plain walk registry v base [] p = refl
 size_plain walk registry v base (part label shape at width ∷ fs) p = omega (arith, size_plain walk registry v base fs p)
-size_plain walk registry v base (reserved bits label at ∷ fs) p = omega (arith, size_plain walk registry v base fs p)
 size_plain walk registry v base (flag label mask ∷ fs) p = omega (arith, size_plain walk registry v base fs p)
 size_plain walk registry v base (sid at ∷ fs) p =
     rw (sid_shown v at Label.sid registry base p.0) (omega (arith, size_plain walk registry v base fs p.1))

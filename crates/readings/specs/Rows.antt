@@ -7,7 +7,7 @@ use Rattle.meaning.specs.Tree.{content}
 use Rattle.meaning.specs.Cut.{pieces, total}
 use Rattle.meaning.specs.Frame.{whole}
 use Rattle.meaning.specs.Sid.{sid_trees, sid_end}
-use Rattle.fields.specs.Shows.{number24_at, numbers_in}
+use Rattle.fields.specs.Shows.{numbers_in}
 use Rattle.readings.specs.Reading.{Reading, took, given}
 
 -- a number in the width octets from a place on: label, shape, place, width
@@ -25,10 +25,6 @@ flag_at label mask registry v base = leaf (content label 0 registry base (base +
 abbrev pub one_number : ℕ → ℕ → ℕ → ℕ → ℕ → List ℕ → ℕ → Reading
 one_number label shape at width registry v base = given (at + width) v (took (at + width) (number_at label shape at width registry v base))
 
--- a number of 24 bits behind reserved ones: label, place, bits
-abbrev pub one_number24 : ℕ → ℕ → ℕ → ℕ → List ℕ → ℕ → Reading
-one_number24 label at bits registry v base = given (at + 3) v (took (at + 3) (number24_at label at bits registry v base))
-
 abbrev pub one_address : ℕ → ℕ → ℕ → ℕ → List ℕ → ℕ → Reading
 one_address label shape width registry v base = given width v (took width (octets_at label shape 0 width registry base))
 
@@ -41,9 +37,9 @@ abbrev pub octet_and_sid : ℕ → ℕ → List ℕ → ℕ → Reading
 octet_and_sid label registry v base =
     given 5 v (took (sid_end v 2) (number_at 16 0 0 1 registry v base ⧺ number_at label 0 1 1 registry v base ⧺ sid_trees Label.sid registry v base 2 ⧺ none))
 
--- the anomalous bit, and 24 bits behind seven reserved ones
+-- the anomalous bit, and 24 bits
 abbrev pub flag_and_number : ℕ → ℕ → List ℕ → ℕ → Reading
-flag_and_number label registry v base = given 4 v (took 4 (flag_at 21 0x80 registry v base ⧺ number24_at label 1 7 registry v base ⧺ none))
+flag_and_number label registry v base = given 4 v (took 4 (flag_at 21 0x80 registry v base ⧺ number_at label 2 1 3 registry v base ⧺ none))
 
 -- an array of numbers: least length, label of the array, label, shape and width of the numbers
 abbrev pub number_array : ℕ → ℕ → ℕ → ℕ → ℕ → ℕ → List ℕ → ℕ → Reading

@@ -1,13 +1,11 @@
 -- Rows of the table, as the cases of the code meet them.
-use Rattle.std.specs.Prelude.{◌≡◌, refl, Bool, true, ◌⊎◌, ℕ, ◌+◌, ◌≤◌, ◌<◌, length}
+use Rattle.std.specs.Prelude.{◌≡◌, refl, true, ◌⊎◌, ℕ, ◌+◌, ◌≤◌, ◌<◌, length}
 use Rattle.std.proofs.Math.Path.{ap}
 use Rattle.std.proofs.Common.{◌∙◌, inl, inr, add-zero, arith, le-leb}
 use mathlib.Core.List.{List, [], ◌∷◌}
 use Rattle.std.proofs.Math.Nat.{zero-add}
 use Rattle.std.proofs.Math.Decide.{dec_le}
-use Rattle.octets.specs.ReservedLaws.{mark_none}
 use Rattle.tape.specs.Forest.{Forest, node, none, size, ◌⧺◌}
-use Rattle.tape.specs.Laid.{Room}
 use Rattle.meaning.specs.Label
 use Rattle.meaning.specs.Label.{Label, number}
 use Rattle.meaning.specs.Shape.{Shape, shape_number, has_number}
@@ -21,9 +19,8 @@ use Rattle.meaning.specs.Array.{octets_in, start_of, elements, element_trees, ar
 use Rattle.meaning.specs.Value.{taken, field_end, field_trees, fields_trees}
 use Rattle.fields.specs.Shows.{number_trees, array_by}
 use Rattle.fields.specs.ShowsLaws.{sid_shown}
-use Rattle.readings.specs.Reading.{took, reading_of, Reads}
-use Rattle.readings.specs.Rows.{one_number, one_number24, octet_and_sid}
-use Rattle.readings.specs.declared.Decoded.{Decoded}
+use Rattle.readings.specs.Reading.{took, reading_of}
+use Rattle.readings.specs.Rows.{octet_and_sid}
 
 -- arrays that are read from a value's first octet on
 module _ (label : Label) (span : Span) (first : start_of span ≡ 0) (r : ℕ) (v : List ℕ) (base : ℕ) where
@@ -41,14 +38,6 @@ module _ (label : Label) (span : Span) (first : start_of span ≡ 0) (r : ℕ) (
       array_row (numbers l s w)
       ∙ ap (λ (f : Forest). took (total ps) (node (content (number label) 7 r base (base + total ps) 0) f none))
       (each_same (element_trees (numbers l s w) r) (number_trees (number l) (shape_number s) w r) (λ p at. rw has) ps base)
-
--- without reserved bits, a number of 24 bits is one of width 3
-module _ (label at registry : ℕ) (v : List ℕ) (base : ℕ) {slim : Bool} {t : List ℕ} {position : ℕ} where
-  pub reads_unreserved : {u : List ℕ} {d : Decoded} → Reads slim (one_number24 label at 0 registry v base) t u position d → Reads slim (one_number label 2 at 3 registry v base) t u position d
-  reads_unreserved reads = rw (mark_none v at) at reads
-
-  pub asks_unreserved : {n : ℕ} → Room slim (one_number label 2 at 3 registry v base).found n base t position → Room slim (one_number24 label at 0 registry v base).found n base t position
-  asks_unreserved room = rw (mark_none v at) room
 
 -- flags, an octet and a SID are three records
 pub octet_and_sid_size : (label registry : ℕ) (v : List ℕ) (base : ℕ) → 5 ≤ length v → size (octet_and_sid label registry v base).found ≡ 3

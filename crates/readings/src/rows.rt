@@ -1,8 +1,8 @@
 // Readings that several types share.
-ghost use Rattle.std.specs.Prelude.{◌≡◌, true, ◌*◌, ◌≤◌};
+ghost use Rattle.std.specs.Prelude.{◌≡◌, true, ◌≤◌};
 ghost use Rattle.octets.specs.BigEndian.{is_width};
 ghost use Rattle.readings.specs.Reading.{Asks, Decodes};
-ghost use Rattle.readings.specs.Rows.{one_number, one_number24, one_address, for_type, octet_and_sid, flag_and_number, number_array};
+ghost use Rattle.readings.specs.Rows.{one_number, one_address, for_type, octet_and_sid, flag_and_number, number_array};
 
 use crate::{Decoded, Taken};
 use fields::Source;
@@ -13,19 +13,18 @@ use tape::Position;
 use tape::label::Label;
 use tape::shape::Shape;
 
-// One number of 24 bits, from `at` on, behind so many reserved bits.
+// One number of 24 bits, from `at` on.
 pub fn one_number24(
     value: &[u8],
     source: Source,
     label: u8,
     at: usize,
-    reserved: usize,
     tape: &mut [u64],
     slim: bool,
     position: Position,
 ) -> Decoded
-    requires { (at ≤ 8) × (reserved ≤ 8) × (reserved ≤ 8 * at) × Asks slim (one_number24 label at reserved source.registry) value source.base tape position }
-    ensures { Decodes slim (one_number24 label at reserved source.registry) value source.base tape position result }
+    requires { (at ≤ 8) × Asks slim (one_number label 2 at 3 source.registry) value source.base tape position }
+    ensures { Decodes slim (one_number label 2 at 3 source.registry) value source.base tape position result }
 {
     if value.len() < at + 3 {
         return Decoded {
@@ -33,7 +32,7 @@ pub fn one_number24(
             next: position,
         };
     }
-    let next = number24(value, source, label, at, reserved, tape, slim, position);
+    let next = number24(value, source, label, at, tape, slim, position);
     Decoded {
         taken: Taken::Octets(at + 3),
         next,
@@ -180,7 +179,7 @@ pub fn flag_and_number(
         };
     }
     let second = flag(value, source, Label::ANOMALOUS, 0x80, tape, slim, position);
-    let next = number24(value, source, label, 1, 7, tape, slim, second);
+    let next = number24(value, source, label, 1, tape, slim, second);
     Decoded {
         taken: Taken::Octets(4),
         next,

@@ -16,14 +16,14 @@ fn tag(said: &[u8]) -> u64
     octet(said, 0) as u64 + 256 * (octet(said, 1) as u64) + 65536 * (octet(said, 2) as u64)
 }
 
-// Whether the record at a position is the one that the 19 octets say; the Rust has no mark, so ours is taken off.
+// Whether the record at a position is the one that the 19 octets say.
 fn same_record(tape: &[u64], at: usize, base: u64, said: &[u8]) -> bool
     requires { (base < 4294967296) × (length said.now ≡ 19) }
 {
     let reading = read(tape, false, Position(at));
     let record = reading.record;
     let words = record.words();
-    if record.unmarked() != tag(said) {
+    if words[0] != tag(said) {
         return false;
     }
     if words[1] != base + read_be_u16(said, 3) as u64 {

@@ -1,12 +1,11 @@
--- A record (document 01, 'The tape', and 02, request 04): word 0 = label + 256 x shape + 65,536 x registry, and 1,048,576 more where it is marked,
--- words 1, 2 first octet and one past the last, word 3 the number, words 4, 5 first child and one past the last descendant.
-use Rattle.std.specs.Prelude.{Bool, ◌||◌, List, [], ◌∷◌, ℕ, zero, suc, ◌+◌, ◌*◌, ◌-◌, ◌/◌, ◌%◌, eqb}
+-- A record (document 01, 'The tape'): word 0 = label + 256 x shape + 65,536 x registry, words 1, 2 first octet and one past the last, word 3 the number, words 4, 5 first child and one past the last descendant.
+use Rattle.std.specs.Prelude.{Bool, ◌||◌, List, [], ◌∷◌, ℕ, zero, suc, ◌+◌, ◌*◌, ◌/◌, ◌%◌, eqb}
 use Rattle.tape.specs.declared.Content.{Content}
 use Rattle.tape.specs.declared.Record.{Record}
 
 -- word 0
 abbrev pub tag_of : Content → ℕ
-tag_of m = m.label + 256 * m.shape + 65536 * m.registry + 1048576 * m.mark
+tag_of m = m.label + 256 * m.shape + 65536 * m.registry
 
 -- the label in word 0
 abbrev pub label_of : Record → ℕ
@@ -16,22 +15,9 @@ label_of r = r.tag % 256
 abbrev pub shape_of : Record → ℕ
 shape_of r = r.tag / 256 % 256
 
--- the mark in word 0: 1 where reserved bits before the number are set, otherwise 0
-abbrev pub mark_of : Record → ℕ
-mark_of r = r.tag / 1048576 % 2
-
--- word 0 with the mark taken off
-abbrev pub unmarked : Record → ℕ
-unmarked r = r.tag - 1048576 * mark_of r
-
--- the record with the mark taken off
-abbrev pub without_mark : Record → Record
-without_mark r =
-    record { tag = unmarked r; start = r.start; end = r.end; number = r.number; first = r.first; past = r.past }
-
--- the registry in word 0, the mark taken off
+-- the registry in word 0
 abbrev pub registry_in : Record → ℕ
-registry_in r = unmarked r / 65536
+registry_in r = r.tag / 65536
 
 -- the shapes of containers: 7 Array, 8 Object
 abbrev pub holds : ℕ → Bool
@@ -48,7 +34,7 @@ leaf_record m = container_record m 0 0
 
 -- a record without its positions, as its words say
 abbrev pub content_of : Record → Content
-content_of r = record { label = label_of r; shape = shape_of r; registry = registry_in r; mark = mark_of r; start = r.start; end = r.end; number = r.number }
+content_of r = record { label = label_of r; shape = shape_of r; registry = registry_in r; start = r.start; end = r.end; number = r.number }
 
 -- a child's position, d further on; 0 says that there is none
 abbrev pub later : ℕ → ℕ → ℕ

@@ -1,6 +1,6 @@
 // The tape (document 01, 'The tape'): a lent slice of words, four of header and then records of six.
 ghost use Rattle.std.specs.Prelude.{◌≡◌};
-ghost use Rattle.tape.specs.Record.{label_of, shape_of, mark_of, unmarked, registry_in, leaf_record, container_record, zeros, words};
+ghost use Rattle.tape.specs.Record.{label_of, shape_of, registry_in, leaf_record, container_record, zeros, words};
 
 pub mod label;
 pub mod shape;
@@ -13,13 +13,12 @@ pub struct Octet(pub usize);
 #[derive(Drop)]
 pub struct Position(pub usize);
 
-// A record without its positions: what it is, whether it is marked (0 or 1), its first octet and one past its last, its number.
+// A record without its positions: what it is, its first octet and one past its last, its number.
 #[derive(Drop)]
 pub struct Content {
     pub label: u8,
     pub shape: u8,
     pub registry: u8,
-    pub mark: u8,
     pub start: Octet,
     pub end: Octet,
     pub number: u64,
@@ -51,10 +50,7 @@ impl Content {
         let start = self.start;
         let end = self.end;
         Record {
-            tag: self.label as u64
-                + 256 * (self.shape as u64)
-                + 65536 * (self.registry as u64)
-                + 1048576 * (self.mark as u64),
+            tag: self.label as u64 + 256 * (self.shape as u64) + 65536 * (self.registry as u64),
             start,
             end,
             number: self.number,
@@ -107,24 +103,10 @@ impl Record {
         self.tag / 256 % 256
     }
 
-    // Its mark, out of word 0: 1 where reserved bits before its number are set.
-    pub fn mark(self) -> u64
-        ensures { result ≡ mark_of self }
-    {
-        self.tag / 1048576 % 2
-    }
-
-    // Word 0 with the mark taken off.
-    pub fn unmarked(self) -> u64
-        ensures { result ≡ unmarked self }
-    {
-        self.tag - 1048576 * self.mark()
-    }
-
-    // Its registry, out of word 0 with the mark taken off.
+    // Its registry, out of word 0.
     pub fn registry(self) -> u64
         ensures { result ≡ registry_in self }
     {
-        self.unmarked() / 65536
+        self.tag / 65536
     }
 }

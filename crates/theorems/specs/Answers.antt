@@ -5,7 +5,7 @@ use Rattle.registry.specs.Registry.{registry_of}
 use Rattle.registry.specs.Names.{name_of}
 use Rattle.registry.specs.declared.Found.{Found}
 use Rattle.registry.specs.declared.Found.TheVariants.{Known, Unknown}
-use Rattle.tape.specs.Record.{label_of, shape_of, unmarked}
+use Rattle.tape.specs.Record.{label_of, shape_of}
 use Rattle.tape.specs.Layout.{width, room_of}
 use Rattle.tape.specs.Tape.{used, room, record_at}
 use Rattle.tape.specs.Forest.{size}
@@ -58,12 +58,12 @@ mark_past mark t = record { number = 6; when = used t < mark }
 abbrev pub cuts_through : Bool → ℕ → List ℕ → Line
 cuts_through slim mark t = record { number = 7; when = (i : ℕ) × (i < mark) × (mark < (record_at slim t i).past.0) }
 
--- 8: record read has label over 56, shape over 8, word 0 at or over 393,216 (registry over 5) with the mark taken off (02, request 04), or start after end
+-- 8: record read has label over 56, shape over 8, word 0 at or over 393,216 (registry over 5), or start after end
 abbrev pub unreadable : Record → Line
 unreadable r =
     record {
       number = 8;
-      when = (last_label < label_of r) ⊎ ((last_shape < shape_of r) ⊎ ((65536 * suc last_registry ≤ unmarked r) ⊎ (r.end.0 < r.start.0)));
+      when = (last_label < label_of r) ⊎ ((last_shape < shape_of r) ⊎ ((65536 * suc last_registry ≤ r.tag) ⊎ (r.end.0 < r.start.0)));
     }
 
 -- 9: name longer than the lent octets

@@ -17,7 +17,7 @@ use Rattle.registry.specs.Names.{name_of}
 use Rattle.registry.specs.NameCall.{name_written, named, name_in, name_call}
 use Rattle.registry.specs.declared.Registry.{Registry}
 use Rattle.registry.specs.declared.Found.TheVariants.{Known, Unknown}
-use Rattle.tape.specs.Record.{label_of, shape_of, unmarked, zeros}
+use Rattle.tape.specs.Record.{label_of, shape_of, zeros}
 use Rattle.tape.specs.Layout.{width, room_of}
 use Rattle.tape.specs.Tape.{used, room, headed, with_used, record_at, load}
 use Rattle.tape.specs.Forest.{Forest, size}
@@ -53,7 +53,7 @@ fails_readable r =
     let past : ℕ = 65536 * suc last_registry in
     fails_and (leb (label_of r) last_label) _ (fails_leb (label_of r) last_label)
     (fails_and (leb (shape_of r) last_shape) _ (fails_leb (shape_of r) last_shape)
-    (fails_and (ltb (unmarked r) past) _ (fails_ltb (unmarked r) past) (fails_leb r.start.0 r.end.0)))
+    (fails_and (ltb r.tag past) _ (fails_ltb r.tag past) (fails_leb r.start.0 r.end.0)))
 
 -- clear
 

@@ -18,7 +18,7 @@ use Rattle.meaning.specs.Cut.{Measure, pieces, total, each}
 use Rattle.meaning.specs.CutLaws.{pieces_ind, total_le}
 use Rattle.meaning.specs.Frame.{entry_length, entries, covered, remainder, range_length}
 use Rattle.meaning.specs.FrameLaws.{whole_fits, whole_is, entry_fits, range_fits, range_eight, covered_le, length_remainder}
-use Rattle.meaning.specs.Field.{Span, from, first, Element, numbers, msds, ranges, Field, part, reserved, flag, sid, array, tail, push, Plan}
+use Rattle.meaning.specs.Field.{Span, from, first, Element, numbers, msds, ranges, Field, part, flag, sid, array, tail, push, Plan}
 use Rattle.meaning.specs.Tree.{raw}
 use Rattle.meaning.specs.Sid.{sid_end}
 use Rattle.meaning.specs.SidLaws.{size_sid_le, sid_four_end, sid_three_end}
@@ -102,7 +102,6 @@ tail_inside v at inside = go (inner_fits v at) refl
 field_inside : (v : List ℕ) (f : Field) → need f ≤ length v → field_end v f ≤ length v
 unfolding field_end
 field_inside v (part label shape at width) inside = inside
-field_inside v (reserved bits label at) inside = inside
 field_inside v (flag label mask) inside = inside
 field_inside v (sid at) inside = (sid_ends v at inside).1
 field_inside v (array label span element) inside = omega (arith, span_inside span v inside, total_le (element_length element) (element_fits element) (octets_in span v))
@@ -121,7 +120,6 @@ module _ (walk : Walk) (small : (registry : ℕ) (area : List ℕ) (at : ℕ) �
   field_bound : (registry : ℕ) (v : List ℕ) (base : ℕ) (f : Field) → need f ≤ length v → 3 * size (field_trees walk registry v base f) + 7 * need f ≤ 3 + 7 * field_end v f
   unfolding field_trees field_end
   field_bound registry v base (part label shape at width) inside = omega arith
-  field_bound registry v base (reserved bits label at) inside = omega arith
   field_bound registry v base (flag label mask) inside = omega arith
   field_bound registry v base (sid at) inside = omega (arith, size_sid_le Label.sid registry v base at, (sid_ends v at inside).0)
   field_bound registry v base (array label span element) inside = omega (arith, array_bound label registry (base + start_of span) element (octets_in span v))
@@ -132,7 +130,6 @@ module _ (walk : Walk) (small : (registry : ℕ) (area : List ℕ) (at : ℕ) �
   plain_size : (registry : ℕ) (v : List ℕ) (base : ℕ) (f : Field) → is_plain f ≡ true → size (field_trees walk registry v base f) ≤ 1
   unfolding field_trees
   plain_size registry v base (part label shape at width) e = omega arith
-  plain_size registry v base (reserved bits label at) e = omega arith
   plain_size registry v base (flag label mask) e = omega arith
   plain_size registry v base (sid at) e = size_sid_le Label.sid registry v base at
   plain_size registry v base (array label span element) e = absurd (true≢false (sym e))

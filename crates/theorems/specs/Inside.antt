@@ -13,13 +13,13 @@ use Rattle.tape.specs.Forest.{Forest, none, leaf, node, size, ◌⧺◌, flat}
 use Rattle.tape.specs.declared.Record.{Record}
 use Rattle.meaning.specs.Label
 use Rattle.meaning.specs.Label.{Label}
-use Rattle.meaning.specs.Shape.{Shape, u8, u32, ipv6, bytes}
+use Rattle.meaning.specs.Shape.{Shape, u8, ipv6, bytes}
 use Rattle.meaning.specs.Cut.{Measure, pieces, total, each}
 use Rattle.meaning.specs.CutLaws.{pieces_ind, total_le}
 use Rattle.meaning.specs.Frame.{entry_length, entries, covered, remainder, range_length}
 use Rattle.meaning.specs.FrameLaws.{whole_is, entry_fits, range_eight}
-use Rattle.meaning.specs.Field.{Element, numbers, msds, ranges, Field, part, reserved, flag, sid, array, tail, push, Plan}
-use Rattle.meaning.specs.Tree.{one, one_marked, raw}
+use Rattle.meaning.specs.Field.{Element, numbers, msds, ranges, Field, part, flag, sid, array, tail, push, Plan}
+use Rattle.meaning.specs.Tree.{one, raw}
 use Rattle.meaning.specs.Sid.{sid_trees}
 use Rattle.meaning.specs.SidLaws.{sid_four, sid_three, sid_fewer}
 use Rattle.meaning.specs.Array.{octets_in, start_of, element_length, elements, element_trees, array_of}
@@ -44,12 +44,9 @@ unfolding Within
 within_none lo hi = tt
 
 -- a leaf
-within_marked : (mark : ℕ) (label : Label) (shape : Shape) (registry start end n lo hi : ℕ) → lo ≤ start → end ≤ hi → Within lo hi (one_marked mark label shape registry start end n)
-unfolding Within
-within_marked mark label shape registry start end n lo hi from below = (from, (below, tt))
-
 within_one : (label : Label) (shape : Shape) (registry start end n lo hi : ℕ) → lo ≤ start → end ≤ hi → Within lo hi (one label shape registry start end n)
-within_one = within_marked 0
+unfolding Within
+within_one label shape registry start end n lo hi from below = (from, (below, tt))
 
 -- one after the other
 within-⧺ : (lo hi : ℕ) (f g : Forest) → Within lo hi f → Within lo hi g → Within lo hi (f ⧺ g)
@@ -143,7 +140,6 @@ module _ (walk : Walk) (inside : (registry : ℕ) (area : List ℕ) (base : ℕ)
   within_field : (f : Field) → need f ≤ length v → Within base (base + length v) (field_trees walk registry v base f)
   unfolding field_trees
   within_field (part label shape at width) fits = within_one label shape registry (base + at) (base + at + width) _ base (base + length v) (omega arith) (omega arith)
-  within_field (reserved bits label at) fits = within_marked _ label u32 registry (base + at) (base + at + 3) _ base (base + length v) (omega arith) (omega arith)
   within_field (flag label mask) fits = within_one label u8 registry base (base + 1) _ base (base + length v) (omega arith) (omega arith)
   within_field (sid at) fits = within_sid Label.sid registry v base at
   within_field (array label span element) fits =

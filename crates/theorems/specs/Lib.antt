@@ -41,4 +41,3 @@ pub mod Answers
 pub mod AnswersLaws
 -- the calls, by the table's reading
 pub mod TheCalls
-pub mod Marks

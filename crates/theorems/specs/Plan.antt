@@ -2,7 +2,7 @@
 use Rattle.std.specs.Prelude.{◌≡◌, Bool, true, false, ◌&&◌, ◌||◌, cond, List, [], ◌∷◌, ℕ, suc, ◌+◌, ◌*◌, ◌≤◌, leb, eqb, length}
 use Rattle.registry.specs.Registry.{number_of}
 use Rattle.registry.specs.declared.Registry.TheVariants.{Srv6Sid, Unregistered}
-use Rattle.meaning.specs.Field.{Field, part, reserved, flag, sid, array, tail, push, Row, row, Plan}
+use Rattle.meaning.specs.Field.{Field, part, flag, sid, array, tail, push, Row, row, Plan}
 use Rattle.meaning.specs.Array.{start_of}
 use Rattle.meaning.specs.Tail.{length_at}
 
@@ -13,7 +13,6 @@ is_inner registry = eqb registry (number_of Srv6Sid) || eqb registry (number_of 
 -- a field without a container and without an area inside
 abbrev pub is_plain : Field → Bool
 is_plain (part label shape at width) = true
-is_plain (reserved bits label at) = true
 is_plain (flag label mask) = true
 is_plain (sid at) = true
 is_plain (array label span element) = false
@@ -41,7 +40,6 @@ are_flat registry least fields = cond (is_inner registry) (all_plain fields) tru
 -- the octets that a field asks for, whatever they are
 abbrev pub need : Field → ℕ
 need (part label shape at width) = at + width
-need (reserved bits label at) = at + 3
 need (flag label mask) = 1
 need (sid at) = at + 3
 need (array label span element) = start_of span

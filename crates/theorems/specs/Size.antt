@@ -10,7 +10,7 @@ use Rattle.tape.specs.ForestLaws.{size-⧺}
 use Rattle.meaning.specs.Label.{Label}
 use Rattle.meaning.specs.Cut.{each}
 use Rattle.meaning.specs.Frame.{entries, covered, remainder}
-use Rattle.meaning.specs.Field.{Element, numbers, msds, ranges, Field, part, reserved, flag, sid, array, tail, push, Plan}
+use Rattle.meaning.specs.Field.{Element, numbers, msds, ranges, Field, part, flag, sid, array, tail, push, Plan}
 use Rattle.meaning.specs.Tree.{raw}
 use Rattle.meaning.specs.Sid.{sid_trees}
 use Rattle.meaning.specs.Array.{start_of, element_trees, array_of}
@@ -63,7 +63,6 @@ module _ (walk : Walk) (same : (registry : ℕ) (area : List ℕ) (at at' : ℕ)
   size_field : (registry : ℕ) (v : List ℕ) (base base' : ℕ) (f : Field) → size (field_trees walk registry v base f) ≡ size (field_trees walk registry v base' f)
   unfolding field_trees
   size_field registry v base base' (part label shape at width) = refl
-  size_field registry v base base' (reserved bits label at) = refl
   size_field registry v base base' (flag label mask) = refl
   size_field registry v base base' (sid at) = size_sid _ registry v at base base'
   size_field registry v base base' (array label span element) = size_array label registry (element_trees element registry) (size_element element registry) _ (base + start_of span) (base' + start_of span)

@@ -10,7 +10,6 @@ pub record Fine (container : Bool) (m : Content) : Type 0 where
   pub label : m.label ≤ last_label
   pub shape : m.shape ≤ last_shape
   pub registry : m.registry ≤ last_registry
-  pub mark : m.mark ≤ 1
   pub order : m.start.0 ≤ m.end.0
   pub kind : holds m.shape ≡ container
   pub unused : 4 ≤ m.shape → m.number ≡ 0

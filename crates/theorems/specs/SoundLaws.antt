@@ -3,7 +3,7 @@ use Rattle.std.specs.Prelude.{◌≡◌, refl, Bool, true, false, List, [], ◌�
 use Rattle.std.proofs.Common.{arith, le-leb, lt-ltb}
 use Rattle.tape.specs.Both.{and_true}
 use Rattle.calls.specs.Limits.{last_label, last_shape, last_registry}
-use Rattle.tape.specs.Record.{holds, label_of, shape_of, unmarked, container_record}
+use Rattle.tape.specs.Record.{holds, tag_of, label_of, shape_of, container_record}
 use Rattle.tape.specs.RecordLaws.{label_made, shape_made}
 use Rattle.calls.specs.Calls.{readable}
 use Rattle.tape.specs.Forest.{Forest, none, leaf, node, ◌⧺◌, depth, Fits, Formed}
@@ -13,7 +13,7 @@ use Rattle.meaning.specs.Shape.{Shape, Container, shape_number, container_number
 use Rattle.meaning.specs.Label
 use Rattle.meaning.specs.Shape
 use Rattle.meaning.specs.Cut.{each}
-use Rattle.meaning.specs.Tree.{content, marked}
+use Rattle.meaning.specs.Tree.{content}
 use Rattle.theorems.specs.Closed.{Closed}
 use Rattle.theorems.specs.Sound.{Fine, Sound}
 
@@ -80,9 +80,9 @@ label_fits Label.algorithm_element = omega arith
 
 -- a leaf's record
 pub fine_leaf : (label : Label) (shape : Shape) (registry start end n : ℕ) → registry ≤ last_registry → start ≤ end → (has_number shape ≡ false → n ≡ 0)
-    → {mark : ℕ} → mark ≤ 1 → Fine false (marked mark (number label) (shape_number shape) registry start end n)
-fine_leaf label shape registry start end n low order empty known =
-    record { label = label_fits label; shape = small shape; registry = low; mark = known; order = order; kind = plain shape; unused = λ high. empty (bare shape high) }
+    → Fine false (content (number label) (shape_number shape) registry start end n)
+fine_leaf label shape registry start end n low order empty =
+    record { label = label_fits label; shape = small shape; registry = low; order = order; kind = plain shape; unused = λ high. empty (bare shape high) }
   where
     small : (s : Shape) → shape_number s ≤ last_shape
     small Shape.u8 = omega arith
@@ -115,9 +115,9 @@ fine_leaf label shape registry start end n low order empty known =
 pub fine_node : (label : Label) (shape : Container) (registry start end : ℕ) → registry ≤ last_registry → start ≤ end
     → Fine true (content (number label) (container_number shape) registry start end 0)
 fine_node label Shape.array registry start end low order =
-    record { label = label_fits label; shape = omega arith; registry = low; mark = omega arith; order = order; kind = refl; unused = λ high. refl }
+    record { label = label_fits label; shape = omega arith; registry = low; order = order; kind = refl; unused = λ high. refl }
 fine_node label Shape.object registry start end low order =
-    record { label = label_fits label; shape = omega arith; registry = low; mark = omega arith; order = order; kind = refl; unused = λ high. refl }
+    record { label = label_fits label; shape = omega arith; registry = low; order = order; kind = refl; unused = λ high. refl }
 
 -- such a record can be read
 pub fine_readable : (container : Bool) (m : Content) (first past : ℕ) → Fine container m → readable (container_record m first past) ≡ true
@@ -128,7 +128,7 @@ fine_readable container m first past fine =
     let label' : leb (label_of (container_record m first past)) last_label ≡ true = rw (label_made m first past l) (le-leb _ _ fine.label) in
     let shape' : leb (shape_of (container_record m first past)) last_shape ≡ true = rw (shape_made m first past l s) (le-leb _ _ fine.shape) in
     and_true label' (and_true shape'
-    (and_true (lt-ltb (unmarked (container_record m first past)) (65536 * suc last_registry) (omega (arith, fine.label, fine.shape, fine.registry, fine.mark))) (le-leb _ _ fine.order)))
+    (and_true (lt-ltb (tag_of m) (65536 * suc last_registry) (omega (arith, fine.label, fine.shape, fine.registry))) (le-leb _ _ fine.order)))
 
 -- a fine record has its place in a forest
 fits : {container : Bool} {m : Content} → Fine container m → Fits container m

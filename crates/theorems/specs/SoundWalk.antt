@@ -14,9 +14,8 @@ use Rattle.meaning.specs.Label.{Label}
 use Rattle.meaning.specs.Shape.{Shape, u8, u32, ipv6, bytes, Container, array as arrayShape, object, has_number}
 use Rattle.meaning.specs.Cut.{total, each}
 use Rattle.meaning.specs.Frame.{entries, covered, remainder}
-use Rattle.meaning.specs.Field.{Element, numbers, msds, ranges, Field, part, reserved, flag, sid, array, tail, push, Plan}
-use Rattle.octets.specs.ReservedLaws.{mark_small}
-use Rattle.meaning.specs.Tree.{one, one_marked, over, raw, number_in}
+use Rattle.meaning.specs.Field.{Element, numbers, msds, ranges, Field, part, flag, sid, array, tail, push, Plan}
+use Rattle.meaning.specs.Tree.{one, over, raw, number_in}
 use Rattle.meaning.specs.Sid.{sid_trees}
 use Rattle.meaning.specs.Array.{start_of, element_trees, array_of}
 use Rattle.meaning.specs.Tail.{length_at, inner_fits, inner}
@@ -31,24 +30,17 @@ use Rattle.theorems.specs.PlanLaws.{every, every_plain}
 -- records
 
 module _ (d registry : ℕ) (low : registry ≤ last_registry) where
-  sound_leaf : (label : Label) (shape : Shape) (start end n : ℕ) → start ≤ end → (has_number shape ≡ false → n ≡ 0) → {mark : ℕ} → mark ≤ 1 → Sound d (one_marked mark label shape registry start end n)
-  unfolding Sound
-  sound_leaf label shape start end n order empty known = (fine_leaf label shape registry start end n low order empty known, tt)
-
   sound_one : (label : Label) (shape : Shape) (start end n : ℕ) → start ≤ end → (has_number shape ≡ false → n ≡ 0) → Sound d (one label shape registry start end n)
-  sound_one label shape start end n order empty = sound_leaf label shape start end n order empty (omega arith)
+  unfolding Sound
+  sound_one label shape start end n order empty = (fine_leaf label shape registry start end n low order empty, tt)
 
   -- octets without a number
   sound_octets : (label : Label) (shape : Shape) (start end : ℕ) → start ≤ end → Sound d (one label shape registry start end 0)
   sound_octets label shape start end order = sound_one label shape start end 0 order (λ e. refl)
 
-  -- a number with a mark
-  sound_marked : (label : Label) (shape : Shape) (start end n : ℕ) → start ≤ end → has_number shape ≡ true → {mark : ℕ} → mark ≤ 1 → Sound d (one_marked mark label shape registry start end n)
-  sound_marked label shape start end n order has = sound_leaf label shape start end n order (λ e. cc)
-
-  -- a number without one
+  -- a number
   sound_number : (label : Label) (shape : Shape) (start end n : ℕ) → start ≤ end → has_number shape ≡ true → Sound d (one label shape registry start end n)
-  sound_number label shape start end n order has = sound_marked label shape start end n order has (omega arith)
+  sound_number label shape start end n order has = sound_one label shape start end n order (λ e. cc)
 
   -- where the shape carries one
   sound_part : (label : Label) (shape : Shape) (start end : ℕ) (v : List ℕ) (at width : ℕ) → start ≤ end → Sound d (one label shape registry start end (number_in shape v at width))
@@ -98,7 +90,6 @@ module _ (walk : Walk) (registry : ℕ) (low : registry ≤ last_registry) (v : 
   sound_plain : (f : Field) → is_plain f ≡ true → Sound 0 (field_trees walk registry v base f)
   unfolding field_trees
   sound_plain (part label shape at width) e = sound_part 0 registry low label shape (base + at) (base + at + width) v at width (omega arith)
-  sound_plain (reserved bits label at) e = sound_marked 0 registry low label u32 (base + at) (base + at + 3) (big_endian v at 3) (omega arith) refl (mark_small bits v at)
   sound_plain (flag label mask) e = sound_number 0 registry low label u8 base (base + 1) _ (omega arith) refl
   sound_plain (sid at) e = sound_sid 0 registry low Label.sid v base at
   sound_plain (array label span element) e = absurd (true≢false (sym e))
@@ -112,7 +103,6 @@ module _ (walk : Walk) (registry : ℕ) (low : registry ≤ last_registry) (v : 
   sound_field : ((r : ℕ) (area : List ℕ) (at : ℕ) → is_inner r ≡ true → Sound 2 (walk r area at)) → (f : Field) → Sound 2 (field_trees walk registry v base f)
   unfolding field_trees
   sound_field inside (part label shape at width) = plain_deeper (part label shape at width) refl
-  sound_field inside (reserved bits label at) = plain_deeper (reserved bits label at) refl
   sound_field inside (flag label mask) = plain_deeper (flag label mask) refl
   sound_field inside (sid at) = plain_deeper (sid at) refl
   sound_field inside (array label span element) = sound_array registry low 1 label (element_trees element registry) (base + start_of span) _ (sound_element registry low element)

@@ -7,7 +7,7 @@ use Rattle.registry.specs.Registry.{number_of}
 use Rattle.registry.specs.declared.Registry.TheVariants.{Srv6Sid, Unregistered}
 use Rattle.meaning.specs.CutLaws.{each_same}
 use Rattle.meaning.specs.Frame.{entries}
-use Rattle.meaning.specs.Field.{Field, part, reserved, flag, sid, array, tail, push, Plan}
+use Rattle.meaning.specs.Field.{Field, part, flag, sid, array, tail, push, Plan}
 use Rattle.meaning.specs.Array.{array_of}
 use Rattle.meaning.specs.Tail.{length_at, inner}
 use Rattle.meaning.specs.Value.{Walk, push_by, field_trees, fields_trees, value_trees}
@@ -24,7 +24,6 @@ module _ (walk walk' : Walk) (registry : ℕ) (v : List ℕ) (base : ℕ) where
   plain_same : (f : Field) → is_plain f ≡ true → Same f
   unfolding field_trees
   plain_same (part label shape at width) e = refl
-  plain_same (reserved bits label at) e = refl
   plain_same (flag label mask) e = refl
   plain_same (sid at) e = refl
   plain_same (array label span element) e = absurd (true≢false (sym e))
@@ -35,7 +34,6 @@ module _ (walk walk' : Walk) (registry : ℕ) (v : List ℕ) (base : ℕ) where
   field_same : ((r : ℕ) (area : List ℕ) (at : ℕ) → is_inner r ≡ true → walk r area at ≡ walk' r area at) → (f : Field) → Same f
   unfolding field_trees push_by
   field_same alike (part label shape at width) = refl
-  field_same alike (reserved bits label at) = refl
   field_same alike (flag label mask) = refl
   field_same alike (sid at) = refl
   field_same alike (array label span element) = refl

@@ -1,1 +1,6 @@
+pub mod Rest
+pub mod RestLaws
+pub mod Entry
+pub mod EntryLaws
 pub mod NestedLaws
+pub mod WalkLaws

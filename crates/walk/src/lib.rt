@@ -1,5 +1,5 @@
 // The walk of an area: a walk decodes an entry, and an entry walks again. The remaining octets fall. A registry whose values may
-// hold an area has functions of its own, so that its number is a constant in all that they write; the others are in `entry::plain`.
+// hold an area has functions of its own, so that its number is a constant in all that they write; the others are in `plain`.
 ghost use Rattle.std.specs.Prelude.{◌+◌, ◌≤◌, ◌<◌, ◌^◌, length};
 ghost use Rattle.registry.specs.Registry.{number_of};
 ghost use Rattle.tape.specs.Laid.{Room, RoomFor, was, Lays};
@@ -11,12 +11,12 @@ ghost use Rattle.meaning.specs.Area.{walked, pushed};
 ghost use Rattle.fields.specs.Shows.{LaysUpTo};
 ghost use Rattle.readings.specs.Reading.{Reads, took, reading, Asks, Decodes};
 ghost use Rattle.readings.specs.Rows.{octets_at};
-ghost use Rattle.entry.specs.Entry.{entry_in, AsksFor};
+ghost use Rattle.walk.specs.Entry.{entry_in, AsksFor};
 
+use crate::entry::{Entry, complete, entry_of_leaf, raw};
+use crate::plain::plain_area;
 use decoders::prefix::{end_head, prefix};
 use decoders::router_capability::router_capability;
-use entry::plain::plain_area;
-use entry::{Entry, complete, entry_of_leaf, raw};
 use fields::array::container;
 use fields::part::{number16, part};
 use fields::{Shown, Source};
@@ -29,6 +29,9 @@ use registry::registries::{Neighbor, Prefix, RouterCapability};
 use tape::label::Label;
 use tape::shape::Shape;
 use tape::{Octet, Position};
+
+pub mod entry;
+pub mod plain;
 
 // Lays the 16 octets of an SRv6 SID from `at` on.
 fn sid_octets(

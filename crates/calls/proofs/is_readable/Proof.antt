@@ -26,29 +26,15 @@ add-if3 c = search rules
 mul-if3 : tie.Need-overflow-mul-if3
 mul-if3 c = search rules
 
-unmarked-requires : tie.Need-unmarked-requires
-unmarked-requires c κs = search rules
-
 returns-3 : tie.Need-returns-3
 unfolding readable
-returns-3 c =
-    let shaped = c.before.before in
-    let labelled = shaped.before.before in
-    let label = rw labelled.before.label.ensures at labelled.if1.false in
-    let shape = rw shaped.before.shape.ensures at shaped.if2.false in
-    rw (le-leb _ _ label, le-leb _ _ shape, le-ltb _ _ (rw c.before.unmarked.ensures at c.if3.true)) refl
+returns-3 c = rw (le-leb _ _ (rw c.before.before.before.before.before.label.ensures at c.before.before.before.before.if1.false), le-leb _ _ (rw c.before.before.before.shape.ensures at c.before.before.if2.false), le-ltb _ _ c.if3.true) refl
 
 returns-4 : tie.Need-returns-4
 unfolding readable
-returns-4 c =
-    let read = c.before in
-    let shaped = read.before.before in
-    let labelled = shaped.before.before in
-    let label = rw labelled.before.label.ensures at labelled.if1.false in
-    let shape = rw shaped.before.shape.ensures at shaped.if2.false in
-    rw (le-leb _ _ label, le-leb _ _ shape, lt-ltb _ _ (rw read.before.unmarked.ensures at read.if3.false)) refl
+returns-4 c = rw (le-leb _ _ (rw c.before.before.before.before.before.before.label.ensures at c.before.before.before.before.before.if1.false), le-leb _ _ (rw c.before.before.before.before.shape.ensures at c.before.before.before.if2.false), lt-ltb _ _ c.before.if3.false) refl
 
 pub is_readable_spec : {M : Type 1} → statement M
 is_readable_spec =
     tie.close
-    (tie.spec label-requires returns shape-requires returns-2 add-if3 mul-if3 unmarked-requires returns-3 returns-4)
+    (tie.spec label-requires returns shape-requires returns-2 add-if3 mul-if3 returns-3 returns-4)

@@ -1,6 +1,6 @@
--- The examples of document 01, 'Octets and what they become', and the one of docs/MEANING.md; tapes of document 02's request 09, and reserved bits of its request 04.
+-- The examples of document 01, 'Octets and what they become', and the one of docs/MEANING.md; and tapes of document 02's request 09.
 use Rattle.std.specs.Prelude.{true, false, List, [], ◌∷◌, ◌++◌, replicate}
-use Rattle.meaning.specs.Examples.Example.{printed, marked_number, Case, push_at, refused_push, walk, onto, mask, push}
+use Rattle.meaning.specs.Examples.Example.{printed, Case, push_at, refused_push, walk, onto, mask, push}
 
 -- those marked [P]
 unfoldable pub cases : List Case
@@ -254,77 +254,4 @@ slim_cases =
     onto false (0 ∷ 4 ∷ 4 ∷ 0 ∷ replicate 12 0) 0 (0x12 ∷ []) 4 0 0 0 (0 ∷ 4 ∷ 4 ∷ 0 ∷ replicate 12 0) ∷
     -- 5: two records are needed, and there is room for one, with three words over
     onto true (2 ∷ 4 ∷ 4 ∷ 0 ∷ replicate 15 9) 0 (0x12 ∷ []) 5 0 0 2 (2 ∷ 4 ∷ 4 ∷ 0 ∷ replicate 15 9) ∷
-    []
-
--- request 04, at base 100: reserved bits that are set mark the number behind them, and no other record
-unfoldable pub marked_cases : List Case
-marked_cases =
-    -- 33: the anomalous bit is not reserved; the seven after it are, the last and the first of them alone
-    push 0 (0x21 ∷ 0x04 ∷ 0x80 ∷ 0x00 ∷ 0x00 ∷ 0x0A ∷ 0x21 ∷ 0x04 ∷ 0x01 ∷ 0x00 ∷ 0x00 ∷ 0x0A ∷ 0x21 ∷ 0x04 ∷ 0xC0 ∷ 0x00 ∷ 0x00 ∷ 0x0A ∷ []) 18 (
-    printed 4 7 0 100 118 0 1 16 ∷
-    printed 47 8 0 100 106 0 2 6 ∷
-    printed 0 0 0 100 101 33 0 0 ∷
-    printed 1 0 0 101 102 4 0 0 ∷
-    printed 21 0 0 102 103 1 0 0 ∷
-    printed 22 2 0 103 106 10 0 0 ∷
-    printed 47 8 0 106 112 0 7 11 ∷
-    printed 0 0 0 106 107 33 0 0 ∷
-    printed 1 0 0 107 108 4 0 0 ∷
-    printed 21 0 0 108 109 0 0 0 ∷
-    marked_number 22 109 112 10 ∷
-    printed 47 8 0 112 118 0 12 16 ∷
-    printed 0 0 0 112 113 33 0 0 ∷
-    printed 1 0 0 113 114 4 0 0 ∷
-    printed 21 0 0 114 115 1 0 0 ∷
-    marked_number 22 115 118 10 ∷
-    []
-    ) ∷
-    -- 34: each number by the octet before it; before the second, all eight bits are reserved
-    push 0 (0x22 ∷ 0x08 ∷ 0x80 ∷ 0x00 ∷ 0x00 ∷ 0x01 ∷ 0x80 ∷ 0x00 ∷ 0x00 ∷ 0x02 ∷ 0x22 ∷ 0x08 ∷ 0x02 ∷ 0x00 ∷ 0x00 ∷ 0x01 ∷ 0x00 ∷ 0x00 ∷ 0x00 ∷ 0x02 ∷ []) 20 (
-    printed 4 7 0 100 120 0 1 13 ∷
-    printed 47 8 0 100 110 0 2 7 ∷
-    printed 0 0 0 100 101 34 0 0 ∷
-    printed 1 0 0 101 102 8 0 0 ∷
-    printed 21 0 0 102 103 1 0 0 ∷
-    printed 23 2 0 103 106 1 0 0 ∷
-    marked_number 24 107 110 2 ∷
-    printed 47 8 0 110 120 0 8 13 ∷
-    printed 0 0 0 110 111 34 0 0 ∷
-    printed 1 0 0 111 112 8 0 0 ∷
-    printed 21 0 0 112 113 0 0 0 ∷
-    marked_number 23 113 116 1 ∷
-    printed 24 2 0 117 120 2 0 0 ∷
-    []
-    ) ∷
-    -- 35: the whole octet is reserved; 36: as 33
-    push 0 (0x23 ∷ 0x04 ∷ 0x80 ∷ 0x00 ∷ 0x00 ∷ 0x03 ∷ 0x23 ∷ 0x04 ∷ 0x00 ∷ 0x00 ∷ 0x00 ∷ 0x03 ∷ 0x24 ∷ 0x04 ∷ 0xFF ∷ 0x00 ∷ 0x00 ∷ 0x04 ∷ []) 18 (
-    printed 4 7 0 100 118 0 1 14 ∷
-    printed 47 8 0 100 106 0 2 5 ∷
-    printed 0 0 0 100 101 35 0 0 ∷
-    printed 1 0 0 101 102 4 0 0 ∷
-    marked_number 25 103 106 3 ∷
-    printed 47 8 0 106 112 0 6 9 ∷
-    printed 0 0 0 106 107 35 0 0 ∷
-    printed 1 0 0 107 108 4 0 0 ∷
-    printed 25 2 0 109 112 3 0 0 ∷
-    printed 47 8 0 112 118 0 10 14 ∷
-    printed 0 0 0 112 113 36 0 0 ∷
-    printed 1 0 0 113 114 4 0 0 ∷
-    printed 21 0 0 114 115 1 0 0 ∷
-    marked_number 26 115 118 4 ∷
-    []
-    ) ∷
-    -- a value that is too short is not read, and type 18 has no reserved bits
-    push 0 (0x21 ∷ 0x03 ∷ 0xFF ∷ 0xFF ∷ 0xFF ∷ 0x12 ∷ 0x03 ∷ 0xFF ∷ 0xFF ∷ 0xFF ∷ []) 10 (
-    printed 4 7 0 100 110 0 1 9 ∷
-    printed 47 8 0 100 105 0 2 5 ∷
-    printed 0 0 0 100 101 33 0 0 ∷
-    printed 1 0 0 101 102 3 0 0 ∷
-    printed 2 6 0 102 105 0 0 0 ∷
-    printed 47 8 0 105 110 0 6 9 ∷
-    printed 0 0 0 105 106 18 0 0 ∷
-    printed 1 0 0 106 107 3 0 0 ∷
-    printed 15 2 0 107 110 16777215 0 0 ∷
-    []
-    ) ∷
     []

@@ -1,5 +1,5 @@
 -- The form of an example.
-use Rattle.std.specs.Prelude.{Bool, true, false, ◌&&◌, cond, List, [], ◌∷◌, ◌++◌, ℕ, zero, suc, ◌+◌, ◌*◌, ◌-◌, ◌/◌, ◌%◌, eqb, length, replicate}
+use Rattle.std.specs.Prelude.{Bool, true, false, ◌&&◌, cond, List, [], ◌∷◌, ◌++◌, ℕ, zero, suc, ◌+◌, ◌*◌, eqb, length, replicate}
 use Rattle.octets.specs.Mask.{masked}
 use Rattle.outcome.specs.Call.{After, numbers_of}
 use Rattle.meaning.specs.Field.{Row, row}
@@ -14,20 +14,14 @@ empty_tape true n = 0 ∷ 4 ∷ 4 ∷ 0 ∷ replicate (4 * n) 0
 -- a record as the dump program prints it, after its position: label, shape, registry, words 1 to 5
 pub data Printed : Type 0 where
   printed : ℕ → ℕ → ℕ → ℕ → ℕ → ℕ → ℕ → ℕ → Printed
-  -- the same of a record of registry 0 that is marked, a number of shape 2: label, words 1 to 3
-  marked_number : ℕ → ℕ → ℕ → ℕ → Printed
 
--- the words of a record, as documents 01 and 02 have them
-abbrev words_in : Bool → ℕ → ℕ → ℕ → ℕ → ℕ → ℕ → List ℕ
-words_in false kind start end n first past = kind ∷ start ∷ end ∷ n ∷ first ∷ past ∷ []
-words_in true kind start end n first past = kind ∷ (start + 4294967296 * end) ∷ n ∷ (first + 4294967296 * past) ∷ []
-
--- the words of records
+-- the words of records, as documents 01 and 02 have them
 abbrev words_of : Bool → List Printed → List ℕ
 words_of slim [] = []
-words_of slim (printed label shape registry start end n first past ∷ records) =
-    words_in slim (label + 256 * shape + 65536 * registry) start end n first past ++ words_of slim records
-words_of slim (marked_number label start end n ∷ records) = words_in slim (label + 256 * 2 + 1048576) start end n 0 0 ++ words_of slim records
+words_of false (printed label shape registry start end n first past ∷ records) =
+    (label + 256 * shape + 65536 * registry) ∷ start ∷ end ∷ n ∷ first ∷ past ∷ words_of false records
+words_of true (printed label shape registry start end n first past ∷ records) =
+    (label + 256 * shape + 65536 * registry) ∷ (start + 4294967296 * end) ∷ n ∷ (first + 4294967296 * past) ∷ words_of true records
 
 -- an example: what is called, and what it is to give
 pub data Case : Type 0 where
@@ -69,20 +63,6 @@ wanted slim (refused_push room base registry area answer needed) = answer ∷ 0 
 wanted slim (walk registry area octets records) = done_with slim octets records
 wanted slim (onto own tape registry area answer octets written needed after) = answer ∷ octets ∷ written ∷ needed ∷ after
 wanted slim (mask bits before after) = after
-
--- a word 0 with the mark taken off
-abbrev unmarked_word : ℕ → ℕ
-unmarked_word word = word - 1048576 * (word / 1048576 % 2)
-
--- words among which every word 0 has its mark taken off: how many other words a record has, and how many come before the next word 0
-abbrev unmarked_words : ℕ → ℕ → List ℕ → List ℕ
-unmarked_words others before [] = []
-unmarked_words others zero (word ∷ words) = unmarked_word word ∷ unmarked_words others others words
-unmarked_words others (suc before) (word ∷ words) = word ∷ unmarked_words others before words
-
--- what the definitions give, the marks taken off the records: four numbers and a header of four words stand before them
-abbrev pub computed_unmarked : Bool → Case → List ℕ
-computed_unmarked slim x = unmarked_words (cond slim 3 5) 8 (computed slim x)
 
 -- a number in front of others, where a test holds
 abbrev also : Bool → ℕ → List ℕ → List ℕ

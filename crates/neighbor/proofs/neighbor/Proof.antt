@@ -7,7 +7,7 @@ use Rattle.meaning.specs.TableLaws.{least_in, fields_in}
 use Rattle.meaning.specs.Value.{field_end, field_trees, fields_trees, taken}
 use Rattle.readings.specs.Reading.{reading_of}
 use Rattle.readings.specs.ReadingLaws.{asks_row, asks_given, reads_as, of_type, of_unknown, row_given}
-use Rattle.readings.specs.RowsLaws.{reads_unreserved, asks_unreserved, bandwidth_types, past_36}
+use Rattle.readings.specs.RowsLaws.{bandwidth_types, past_36}
 use borrow.Author.Rules.{rules}
 use Rattle.neighbor.proofs.neighbor.Statement.{statement}
 use Rattle.neighbor.proofs.neighbor.Tie as tie
@@ -55,8 +55,7 @@ one-number24-requires : tie.Need-one-number24-requires
 unfolding usual fields_of table least_in fields_in reading_of fields_trees field_trees taken field_end ◌⧺◌
 one-number24-requires c κs =
     let g = c.before.before.before.before.args in
-    let asked = asks_given 0 18 g.value.now g.base.0 refl c.before.match.keys10 c.before.before.before.before.requires.2 in
-    (omega arith, omega arith, omega arith, asks_unreserved 15 0 0 g.value.now g.base.0 asked)
+    (omega arith, asks_given 0 18 g.value.now g.base.0 refl c.before.match.keys10 c.before.before.before.before.requires.2)
 
 octet-and-sid-requires : tie.Need-octet-and-sid-requires
 unfolding usual fields_of table least_in fields_in reading_of fields_trees field_trees taken field_end ◌⧺◌
@@ -80,7 +79,7 @@ one-number24-requires-2 : tie.Need-one-number24-requires-2
 unfolding usual fields_of table least_in fields_in reading_of fields_trees field_trees taken field_end ◌⧺◌
 one-number24-requires-2 c κs =
     let g = c.before.before.before.before.args in
-    (omega arith, omega arith, omega arith, asks_given 0 35 g.value.now g.base.0 refl c.before.match.keys15 c.before.before.before.before.requires.2)
+    (omega arith, asks_given 0 35 g.value.now g.base.0 refl c.before.match.keys15 c.before.before.before.before.requires.2)
 
 flag-and-number-requires-2 : tie.Need-flag-and-number-requires-2
 unfolding usual fields_of table least_in fields_in reading_of fields_trees field_trees taken field_end ◌⧺◌
@@ -193,8 +192,7 @@ unfolding usual fields_of table least_in fields_in reading_of fields_trees field
 returns-10 c =
     let g = c.before.before.before.before.before.before.before.args in
     let v = g.value.now in
-    let read = reads_unreserved 15 0 0 v g.base.0 c.before.before.one-number24.ensures in
-    of_type 0 18 g.kind v g.base.0 c.before.before.before.before.match.keys10 (row_given 0 18 0 v g.base.0 refl read)
+    of_type 0 18 g.kind v g.base.0 c.before.before.before.before.match.keys10 (row_given 0 18 0 v g.base.0 refl c.before.before.one-number24.ensures)
 
 same-length-11 : tie.Need-same-length-11
 same-length-11 c = search rules

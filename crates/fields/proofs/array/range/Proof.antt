@@ -20,11 +20,7 @@ same_length : tie.Need-same-length
 same_length c = search rules
 
 returns : tie.Need-returns
-returns c =
-    let held = c.before.before in
-    let sid = held.before.before.before.before.before in
-    let size = sid.before.before.before.before in
-    range_made _ _ _ size.before.before.before.before.before.requires.0 size.number24.ensures sid.sid.ensures.laid held.container.ensures
+returns c = range_made _ _ _ c.before.before.before.before.before.before.before.before.before.before.before.before.before.before.before.before.requires.0 c.before.before.before.before.before.before.before.before.before.before.before.number24.ensures c.before.before.before.before.before.before.before.sid.ensures.laid c.before.before.container.ensures
 
 pub range_spec : {M : Type 1} → statement M
 range_spec =

@@ -26,11 +26,7 @@ cast-t10 : tie.Need-overflow-cast-t10
 cast-t10 c = search rules
 
 returns-2 : tie.Need-returns-2
-returns-2 c =
-    let read = c.before in
-    let g = read.before.before.before.args in
-    let x = three g.value.now g.at (omega arith) in
-    (ap (λ (n : ℕ). n % 1048576) read.read-be-u24.ensures.0 ∙ x.0, x.1)
+returns-2 c = let g = c.before.before.before.args in let x = three g.value.now g.at (omega arith) in (ap (λ (n : ℕ). n % 1048576) c.read-be-u24.ensures.0 ∙ x.0, x.1)
 
 pub read_sid_spec : {M : Type 1} → statement M
 read_sid_spec =

@@ -19,7 +19,7 @@ cast-t6 : tie.Need-overflow-cast-t6
 cast-t6 c = search rules
 
 returns-2 : tie.Need-returns-2
-returns-2 c told-so = (omega arith, refl, refl, c.before.read-be-u24.ensures.0)
+returns-2 c told-so = (omega arith, refl, refl, c.read-be-u24.ensures.0)
 
 pub number24_alone_spec : {M : Type 1} → statement M
 number24_alone_spec = tie.close (tie.spec not-alone-requires returns read-be-u24-requires cast-t6 returns-2)

@@ -51,7 +51,7 @@ returns-2 c = rw c.before.match.keys2 c.read-be-u16.ensures
 
 -- src/read.rt:49:1
 returns-3 : tie.Need-returns-3
-returns-3 c = rw c.before.before.match.keys3 c.before.read-be-u24.ensures.0
+returns-3 c = rw c.before.match.keys3 c.read-be-u24.ensures.0
 
 -- src/read.rt:49:1
 returns-4 : tie.Need-returns-4

@@ -13,10 +13,10 @@ returns : tie.Need-returns
 returns c = rw (lt-leb _ _ c.if1.true) reads_nothing
 
 number24-requires : tie.Need-number24-requires
-number24-requires c κs = let room = rw (le-leb _ _ c.before.if1.false) at c.before.before.before.before.requires.3 in search rules
+number24-requires c κs = let room = rw (le-leb _ _ c.before.if1.false) at c.before.before.before.before.requires.1 in search rules
 
-add-t10 : tie.Need-overflow-add-t10
-add-t10 c = search rules
+add-t9 : tie.Need-overflow-add-t9
+add-t9 c = search rules
 
 same_length : tie.Need-same-length
 same_length c = search rules
@@ -26,4 +26,4 @@ returns-2 c = rw (le-leb _ _ c.before.before.before.before.if1.false) (record { 
 
 pub one_number24_spec : {M : Type 1} → statement M
 one_number24_spec =
-    tie.close (tie.spec add-if1 returns number24-requires add-t10 same_length returns-2)
+    tie.close (tie.spec add-if1 returns number24-requires add-t9 same_length returns-2)

@@ -15,7 +15,7 @@ use Rattle.walk.proofs.area.Reads as area
 use Rattle.walk.proofs.neighbor_area.Reads as neighbor-area
 use Rattle.walk.proofs.prefix_area.Reads as prefix-area
 use Rattle.walk.proofs.router_area.Reads as router-area
-use Rattle.entry.proofs.plain.plain_area.Reads as plain-area-reads
+use Rattle.walk.proofs.plain.plain_area.Reads as plain-area-reads
 
 abbrev pub callees : ℕ → area-lts.Claims
 callees t = (measures.neighbor_area_below t, neighbor-area.Post, measures.prefix_area_below t, prefix-area.Post, measures.router_area_below t, router-area.Post, plain-area-reads.Asked, plain-area-reads.Learnt)

@@ -3,16 +3,16 @@ use Prim.Native.Nat.{ℕ, ◌+◌}
 use native.Mathlib.Omega.{arith}
 use lib.ListN.{length-drop}
 use Rattle.meaning.specs.PlaceLaws.{part_rest}
-use Rattle.entry.specs.EntryLaws.{entry_octets, entry_room, rest_room, head_places, leaf_room, leaf_made}
+use Rattle.walk.specs.EntryLaws.{entry_octets, entry_room, rest_room, head_places, leaf_room, leaf_made}
 use borrow.Author.Rules.{rules}
 use Rattle.walk.proofs.+nesting.Proof.Measures as measures
 use Rattle.walk.proofs.+nesting.Lts-neighbor_entry as neighbor-entry-lts
 use Rattle.walk.proofs.neighbor_entry.Reads as neighbor-entry
 use Rattle.walk.proofs.neighbor_value.Reads as neighbor-value
 use Rattle.neighbor.proofs.alone.alone.Reads as alone-reads
-use Rattle.entry.proofs.Entry.of.Reads as of-reads
-use Rattle.entry.proofs.complete.Reads as complete-reads
-use Rattle.entry.proofs.entry_of_leaf.Reads as entry-of-leaf-reads
+use Rattle.walk.proofs.entry.Entry.of.Reads as of-reads
+use Rattle.walk.proofs.entry.complete.Reads as complete-reads
+use Rattle.walk.proofs.entry.entry_of_leaf.Reads as entry-of-leaf-reads
 
 abbrev pub callees : ℕ → neighbor-entry-lts.Claims
 callees t = (of-reads.Asked, of-reads.Learnt, alone-reads.Asked, alone-reads.Learnt, entry-of-leaf-reads.Asked, entry-of-leaf-reads.Learnt, measures.neighbor_value_below t, neighbor-value.Post, complete-reads.Asked, complete-reads.Learnt)

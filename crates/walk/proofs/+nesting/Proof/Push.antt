@@ -4,14 +4,14 @@ use Prim.Native.Nat.{ℕ}
 use native.Mathlib.Omega.{arith}
 use Rattle.registry.specs.Registry.{number_of}
 use Rattle.meaning.specs.AreaCallLaws.{number_low}
-use Rattle.entry.specs.WalkLaws.{push_room, remainder_room, push_made}
+use Rattle.walk.specs.WalkLaws.{push_room, remainder_room, push_made}
 use borrow.Author.Rules.{rules}
 use Rattle.walk.proofs.+nesting.Proof.Measures as measures
 use Rattle.walk.proofs.+nesting.Lts-push as push-lts
 use Rattle.walk.proofs.push.Reads as push
 use Rattle.walk.proofs.walk.Reads as walk
 use Rattle.registry.proofs.Registry.number.Reads as number-reads
-use Rattle.entry.proofs.raw.Reads as raw-reads
+use Rattle.walk.proofs.entry.raw.Reads as raw-reads
 
 abbrev pub callees : ℕ → push-lts.Claims
 callees t = (measures.walk_below t, walk.Post, number-reads.Asked, number-reads.Learnt, raw-reads.Asked, raw-reads.Learnt)

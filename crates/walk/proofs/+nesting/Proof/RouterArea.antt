@@ -6,8 +6,8 @@ use native.Mathlib.Omega.{arith}
 use lib.ListN.{length, get_or}
 use Rattle.meaning.specs.Frame.{entry_length}
 use Rattle.fields.specs.Cutting.{CutOff, cut_off_start, cut_off_inside}
-use Rattle.entry.specs.Entry.{entry_in}
-use Rattle.entry.specs.WalkLaws.{first_inside, turn_room, turn_made, area_past, walk_made}
+use Rattle.walk.specs.Entry.{entry_in}
+use Rattle.walk.specs.WalkLaws.{first_inside, turn_room, turn_made, area_past, walk_made}
 use Rattle.walk.proofs.+nesting.Proof.Measures as measures
 use Rattle.walk.proofs.+nesting.Lts-router_area as router-area-lts
 use Rattle.walk.proofs.router_area.Reads as router-area

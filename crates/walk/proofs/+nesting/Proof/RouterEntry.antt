@@ -3,13 +3,13 @@ use Prim.Native.Nat.{ℕ}
 use native.Mathlib.Omega.{arith}
 use lib.ListN.{length-drop}
 use Rattle.meaning.specs.PlaceLaws.{part_rest}
-use Rattle.entry.specs.EntryLaws.{entry_octets, entry_room, rest_room, head_places}
+use Rattle.walk.specs.EntryLaws.{entry_octets, entry_room, rest_room, head_places}
 use Rattle.walk.proofs.+nesting.Proof.Measures as measures
 use Rattle.walk.proofs.+nesting.Lts-router_entry as router-entry-lts
 use Rattle.walk.proofs.router_entry.Reads as router-entry
 use Rattle.walk.proofs.router_value.Reads as router-value
-use Rattle.entry.proofs.Entry.of.Reads as of-reads
-use Rattle.entry.proofs.complete.Reads as complete-reads
+use Rattle.walk.proofs.entry.Entry.of.Reads as of-reads
+use Rattle.walk.proofs.entry.complete.Reads as complete-reads
 
 abbrev pub callees : ℕ → router-entry-lts.Claims
 callees t = (of-reads.Asked, of-reads.Learnt, measures.router_value_below t, router-value.Post, complete-reads.Asked, complete-reads.Learnt)

@@ -2,7 +2,7 @@
 use Prim.Native.Nat.{ℕ}
 use native.Mathlib.Omega.{arith}
 use Rattle.registry.specs.Registry.{number_of}
-use Rattle.entry.specs.WalkLaws.{walk_none}
+use Rattle.walk.specs.WalkLaws.{walk_none}
 use Rattle.walk.proofs.+nesting.Proof.Measures as measures
 use Rattle.walk.proofs.+nesting.Lts-walk as walk-lts
 use Rattle.walk.proofs.area.Reads as area

@@ -1,5 +1,0 @@
-pub mod Rest
-pub mod RestLaws
-pub mod Entry
-pub mod EntryLaws
-pub mod WalkLaws
