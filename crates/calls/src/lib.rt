@@ -1,4 +1,5 @@
 // The calls clear, cut back and read (document 01, 'Numbers a call gives back').
+#![tactic(auto)]
 ghost use Rattle.std.specs.Prelude.{◌≡◌, ◌+◌, ◌*◌, ◌≤◌};
 ghost use Rattle.outcome.specs.Call.{Gives};
 ghost use Rattle.tape.specs.Tape.{load, room};
@@ -14,7 +15,7 @@ pub mod limits;
 pub mod nest;
 
 // What read gives: the outcome, and the record or six zeros.
-#[derive(Drop)]
+#[derive(Clone, Copy)]
 pub struct Reading {
     pub outcome: Outcome,
     pub record: Record,

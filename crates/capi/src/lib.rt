@@ -1,6 +1,7 @@
 // The C boundary: each call over slices and numbers. A slice passes as a pointer and a length; where a call gives an
 // outcome, its four numbers go to a place that the caller lends. What is lent is there, and no two of its parts overlap;
 // a length of 0 takes any pointer.
+#![tactic(auto)]
 ghost use Rattle.std.specs.Prelude.{◌≡◌, false};
 ghost use Rattle.octets.specs.Mask.{Masks};
 ghost use Rattle.outcome.specs.Call.{GivesNumbers};

@@ -1,6 +1,5 @@
 // The records of a last field that goes by its octets: an SRv6 tail, ranges, a push.
 ghost use Rattle.std.specs.Prelude.{◌≡◌, ℕ, ◌+◌, ◌*◌, ◌≤◌, ◌<◌, ◌^◌, length};
-ghost use Rattle.tape.specs.Laid.{was};
 ghost use Rattle.meaning.specs.Label;
 ghost use Rattle.meaning.specs.Field.{array, tail as tailField, push, from, ranges as rangeElement};
 ghost use Rattle.count.specs.Records.{last_records, ranges_records, Heads};
@@ -12,7 +11,7 @@ use fields::array::range_length;
 // The records of an SRv6 tail from `at` on, and of what is left of the value behind it.
 fn tail(value: &[u8], at: usize) -> usize
     requires { (at + 16 ≤ length value.now) × (length value.now < 2 ^ 32) }
-    ensures { (result ≤ 4 * length (was value)) × ((registry base : ℕ) → result ≡ last_records registry (was value) base (tailField at)) }
+    ensures { (result ≤ 4 * length value.now) × ((registry base : ℕ) → result ≡ last_records registry value.now base (tailField at)) }
 {
     let n = value.len();
     let length_at = at + 16;
@@ -30,7 +29,7 @@ fn tail(value: &[u8], at: usize) -> usize
 // The records of a value that has `head` fields and then an SRv6 tail from `at` on; one where the tail's SID is not there.
 pub fn head_and_tail(value: &[u8], head: usize, at: usize) -> usize
     requires { (head ≤ 5) × (at < 2 ^ 32) × (length value.now < 2 ^ 32) }
-    ensures { Heads (at + 16) head (was value) (tailField at) result }
+    ensures { Heads (at + 16) head value.now (tailField at) result }
 {
     if value.len() < at + 16 {
         return 1;
@@ -41,7 +40,7 @@ pub fn head_and_tail(value: &[u8], head: usize, at: usize) -> usize
 // The records of ranges, and of what is left behind them.
 fn ranges(octets: &[u8]) -> usize
     requires { length octets.now < 2 ^ 32 }
-    ensures { (result ≤ 1 + length (was octets)) × ((registry base : ℕ) → result ≡ ranges_records registry (was octets) base) }
+    ensures { (result ≤ 1 + length octets.now) × ((registry base : ℕ) → result ≡ ranges_records registry octets.now base) }
 {
     let mut at = 0;
     let mut records = 0;
@@ -60,7 +59,7 @@ fn ranges(octets: &[u8]) -> usize
 // The records of a value that is flags and ranges.
 pub fn flags_and_ranges(value: &[u8]) -> usize
     requires { length value.now < 2 ^ 32 }
-    ensures { Heads 1 1 (was value) (array Label.ranges (from 1) rangeElement) result }
+    ensures { Heads 1 1 value.now (array Label.ranges (from 1) rangeElement) result }
 {
     let n = value.len();
     if n < 1 {
@@ -72,7 +71,7 @@ pub fn flags_and_ranges(value: &[u8]) -> usize
 // The records of a value that is flags of 2 octets and a push in registry 5.
 pub fn flags_and_push(value: &[u8]) -> usize
     requires { length value.now < 2 ^ 32 }
-    ensures { Heads 2 1 (was value) (push 2) result }
+    ensures { Heads 2 1 value.now (push 2) result }
 {
     let n = value.len();
     if n < 2 {

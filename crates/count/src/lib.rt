@@ -1,8 +1,8 @@
 // How many records an area becomes, by the numbers of the table's rows: nothing is laid.
+#![tactic(auto)]
 ghost use Rattle.std.specs.Prelude.{◌≡◌, ℕ, ◌+◌, ◌≤◌, ◌<◌, ◌^◌, length};
 ghost use Rattle.registry.specs.Registry.{number_of};
 ghost use Rattle.tape.specs.Forest.{size};
-ghost use Rattle.tape.specs.Laid.{was};
 ghost use Rattle.meaning.specs.Table.{usual};
 ghost use Rattle.meaning.specs.Area.{walked, pushed};
 ghost use Rattle.count.specs.Records.{Walks};
@@ -17,7 +17,7 @@ mod registries;
 mod row;
 
 // What an area is counted to: the octets of its complete entries, and the records of its walk.
-#[derive(Drop)]
+#[derive(Clone, Copy)]
 pub struct Counted {
     pub covered: usize,
     pub records: usize,
@@ -26,7 +26,7 @@ pub struct Counted {
 // Counts an area, entry by entry.
 fn count_area(area: &[u8], registry: Registry) -> Counted
     requires { length area.now < 2 ^ 32 }
-    ensures { Walks (walked usual) (number_of registry) (was area) result }
+    ensures { Walks (walked usual) (number_of registry) area.now result }
 {
     let n = area.len();
     if n == 0 {
@@ -55,7 +55,7 @@ fn count_area(area: &[u8], registry: Registry) -> Counted
 // How many records the walk of an area becomes.
 pub fn walked_records(area: &[u8], registry: Registry) -> usize
     requires { length area.now ≤ 65535 }
-    ensures { (base : ℕ) → result ≡ size (walked usual (number_of registry) (was area) base) }
+    ensures { (base : ℕ) → result ≡ size (walked usual (number_of registry) area.now base) }
 {
     let counted = count_area(area, registry);
     counted.records
@@ -64,7 +64,7 @@ pub fn walked_records(area: &[u8], registry: Registry) -> usize
 // How many records the push of an area becomes.
 pub fn pushed_records(area: &[u8], registry: Registry) -> usize
     requires { length area.now ≤ 65535 }
-    ensures { (base : ℕ) → result ≡ size (pushed usual (number_of registry) (was area) base) }
+    ensures { (base : ℕ) → result ≡ size (pushed usual (number_of registry) area.now base) }
 {
     with_rest(count_area(area, registry), area.len())
 }

@@ -1,6 +1,5 @@
 // Areas of the nested level: registry 4, of an SRv6 SID, and registry 5, which reads no type.
 ghost use Rattle.std.specs.Prelude.{cond, ◌<◌, ◌^◌, length};
-ghost use Rattle.tape.specs.Laid.{was};
 ghost use Rattle.meaning.specs.Table.{usual};
 ghost use Rattle.meaning.specs.Value.{Walk};
 ghost use Rattle.meaning.specs.Area.{inner_walk};
@@ -11,7 +10,7 @@ use crate::row::row;
 
 // The records of a value of registry 4, or 5; no area is inside.
 pub fn nested_value(srv6: bool, kind: u8, value: &[u8]) -> usize
-    ensures { (walk : Walk) → CountsBy walk (cond srv6 4 5) kind (was value) result }
+    ensures { (walk : Walk) → CountsBy walk (cond srv6 4 5) kind value.now result }
 {
     if srv6 {
         if kind == 1 {
@@ -24,7 +23,7 @@ pub fn nested_value(srv6: bool, kind: u8, value: &[u8]) -> usize
 // Counts an area of registry 4, or 5.
 pub fn nested_area(area: &[u8], srv6: bool) -> Counted
     requires { length area.now < 2 ^ 32 }
-    ensures { Walks (inner_walk usual) (cond srv6 4 5) (was area) result }
+    ensures { Walks (inner_walk usual) (cond srv6 4 5) area.now result }
 {
     let n = area.len();
     if n == 0 {

@@ -1,7 +1,6 @@
 // The records of a value, by its registry and its type.
 ghost use Rattle.std.specs.Prelude.{◌<◌, ◌^◌, length};
 ghost use Rattle.registry.specs.Registry.{number_of};
-ghost use Rattle.tape.specs.Laid.{was};
 ghost use Rattle.count.specs.Records.{Counts};
 
 use crate::field::{flags_and_push, flags_and_ranges, head_and_tail};
@@ -12,7 +11,7 @@ use registry::Registry;
 // The records of a value of registry 0.
 fn neighbor(kind: u8, value: &[u8]) -> usize
     requires { length value.now < 2 ^ 32 }
-    ensures { Counts 0 kind (was value) result }
+    ensures { Counts 0 kind value.now result }
 {
     let n = value.len();
     match kind {
@@ -44,7 +43,7 @@ fn neighbor(kind: u8, value: &[u8]) -> usize
 // The records of a value of registry 1.
 fn prefix(kind: u8, value: &[u8]) -> usize
     requires { length value.now < 2 ^ 32 }
-    ensures { Counts 1 kind (was value) result }
+    ensures { Counts 1 kind value.now result }
 {
     let n = value.len();
     match kind {
@@ -62,7 +61,7 @@ fn prefix(kind: u8, value: &[u8]) -> usize
 // The records of a value of registry 2.
 fn router_capability(kind: u8, value: &[u8]) -> usize
     requires { length value.now < 2 ^ 32 }
-    ensures { Counts 2 kind (was value) result }
+    ensures { Counts 2 kind value.now result }
 {
     let n = value.len();
     match kind {
@@ -80,7 +79,7 @@ fn router_capability(kind: u8, value: &[u8]) -> usize
 
 // The records of a value of registry 3.
 fn binding(kind: u8, value: &[u8]) -> usize
-    ensures { Counts 3 kind (was value) result }
+    ensures { Counts 3 kind value.now result }
 {
     let n = value.len();
     match kind {
@@ -93,7 +92,7 @@ fn binding(kind: u8, value: &[u8]) -> usize
 // The records of a value.
 pub fn value_records(registry: Registry, kind: u8, value: &[u8]) -> usize
     requires { length value.now < 2 ^ 32 }
-    ensures { Counts (number_of registry) kind (was value) result }
+    ensures { Counts (number_of registry) kind value.now result }
 {
     match registry {
         Registry::Neighbor => neighbor(kind, value),

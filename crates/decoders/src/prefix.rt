@@ -1,7 +1,7 @@
 // Registry 1: sub-TLVs of a prefix (TLVs 27, 135, 235, 236 and 237).
 ghost use Rattle.std.specs.Prelude.{◌≡◌, true, ◌+◌, ◌≤◌, ◌<◌, ◌^◌, length};
 ghost use Rattle.octets.specs.BigEndian.{is_width};
-ghost use Rattle.tape.specs.Laid.{RoomFor, was, Lays};
+ghost use Rattle.tape.specs.Laid.{RoomFor, Lays};
 ghost use Rattle.readings.specs.Reading.{by_row, reading, Asks, Decodes};
 ghost use Rattle.readings.specs.Rows.{number_array, end_head};
 
@@ -77,7 +77,7 @@ pub fn end_head(
     position: Position,
 ) -> Position
     requires { (3 ≤ length value.now) × (source.base.0 + length value.now < 2 ^ 32) × RoomFor slim tape.old (position.0 + 2) }
-    ensures { Lays slim (end_head source.registry (was value) source.base.0) tape position result }
+    ensures { Lays slim (end_head source.registry value.now source.base.0) tape position result }
 {
     let second = number8(value, source, Label::FLAGS, 0, tape, slim, position);
     number16(

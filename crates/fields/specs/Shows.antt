@@ -2,7 +2,7 @@
 use Rattle.std.specs.Prelude.{◌≡◌, Bool, cond, List, ℕ, ◌+◌, ◌%◌, ◌^◌, leb, length}
 use Rattle.octets.specs.BigEndian.{big_endian}
 use Rattle.tape.specs.Forest.{Forest, none, leaf, node}
-use Rattle.tape.specs.Laid.{Laid, Used, was}
+use Rattle.tape.specs.Laid.{Laid, UsedTape}
 use Rattle.tape.specs.declared.Position.{Position}
 use Rattle.meaning.specs.Tree.{content}
 use Rattle.meaning.specs.Cut.{pieces, total, each}
@@ -17,8 +17,8 @@ pub record Shows (slim : Bool) (octets : ℕ) (trees : Forest) (t u : List ℕ) 
   pub laid : Laid slim trees t u at r.next.0
 
 -- a function lays trees on a tape, from position at on, and gives the octet up to which they go and the position after them
-abbrev pub LaysUpTo : Bool → ℕ → Forest → Used → Position → Shown → Type 0
-LaysUpTo slim octets trees tape at r = Shows slim octets trees (was tape) tape.exit.now at.0 r
+abbrev pub LaysUpTo : Bool → ℕ → Forest → UsedTape → Position → Shown → Type 0
+LaysUpTo slim octets trees tape at r = Shows slim octets trees tape.entry.now tape.exit.now at.0 r
 
 -- how many octets a SID has, where 3 are left or more ..
 abbrev pub sid_width : List ℕ → ℕ → ℕ

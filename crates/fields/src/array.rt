@@ -3,7 +3,7 @@ ghost use Rattle.std.specs.Prelude.{◌≡◌, true, ◌+◌, ◌≤◌, ◌<◌
 ghost use Rattle.octets.specs.BigEndian.{is_width};
 ghost use Rattle.tape.specs.Tape.{put_at};
 ghost use Rattle.tape.specs.Record.{container_record};
-ghost use Rattle.tape.specs.Laid.{Room, RoomFor, was, Lays};
+ghost use Rattle.tape.specs.Laid.{Room, RoomFor, Lays};
 ghost use Rattle.meaning.specs.Tree.{content};
 ghost use Rattle.meaning.specs.Cut.{pieces, total};
 ghost use Rattle.meaning.specs.Frame.{whole, range_length};
@@ -31,7 +31,7 @@ pub fn container(
     next: Position,
 )
     requires { (source.base.0 + width < 2 ^ 32) × RoomFor slim tape.old next.0 × (position.0 < next.0) }
-    ensures { tape.new ≡ put_at slim (was tape) position.0 (container_record (content label shape source.registry source.base.0 (source.base.0 + width) 0) (position.0 + 1) next.0) }
+    ensures { tape.new ≡ put_at slim tape.old position.0 (container_record (content label shape source.registry source.base.0 (source.base.0 + width) 0) (position.0 + 1) next.0) }
 {
     let start = source.base.0;
     let content = Content {
@@ -58,7 +58,7 @@ pub fn numbers(
     position: Position,
 ) -> Shown
     requires { (is_width width ≡ true) × Room slim (numbers_in array label shape width source.registry octets.now source.base.0) (length octets.now) source.base.0 tape.old position.0 }
-    ensures { LaysUpTo slim (total (pieces (whole width) (was octets))) (numbers_in array label shape width source.registry (was octets) source.base.0) tape position result }
+    ensures { LaysUpTo slim (total (pieces (whole width) octets.now)) (numbers_in array label shape width source.registry octets.now source.base.0) tape position result }
 {
     let n = octets.len();
     let mut at = 0;
@@ -74,7 +74,7 @@ pub fn numbers(
 // Lays an MSD: its type and its value.
 fn msd(octets: &[u8], source: Source, tape: &mut [u64], slim: bool, position: Position) -> Position
     requires { (length octets.now ≡ 2) × (source.base.0 + 2 < 2 ^ 32) × RoomFor slim tape.old (position.0 + 3) }
-    ensures { Lays slim (element_trees msdElement source.registry (was octets) source.base.0) tape position result }
+    ensures { Lays slim (element_trees msdElement source.registry octets.now source.base.0) tape position result }
 {
     let first = Position(position.0 + 1);
     let second = number8(octets, source, Label::MSD_TYPE, 0, tape, slim, first);
@@ -101,7 +101,7 @@ pub fn msds(
     position: Position,
 ) -> Shown
     requires { Room slim (msds_in source.registry octets.now source.base.0) (length octets.now) source.base.0 tape.old position.0 }
-    ensures { LaysUpTo slim (total (pieces (whole 2) (was octets))) (msds_in source.registry (was octets) source.base.0) tape position result }
+    ensures { LaysUpTo slim (total (pieces (whole 2) octets.now)) (msds_in source.registry octets.now source.base.0) tape position result }
 {
     let n = octets.len();
     let registry = source.registry;
@@ -132,7 +132,7 @@ pub fn msds(
 // The octets of the complete range in front: 3 of size, sub-type 1, length 3 or 4, and that many; 0 where none stands there.
 pub fn range_length(octets: &[u8], at: usize) -> usize
     requires { at ≤ length octets.now }
-    ensures { result ≡ range_length (drop at (was octets)) }
+    ensures { result ≡ range_length (drop at octets.now) }
 {
     let left = octets.len() - at;
     if left < 5 {
@@ -160,7 +160,7 @@ fn range(
     position: Position,
 ) -> Position
     requires { (8 ≤ length octets.now) × (source.base.0 + length octets.now < 2 ^ 32) × RoomFor slim tape.old (position.0 + 3) }
-    ensures { Lays slim (element_trees rangeElement source.registry (was octets) source.base.0) tape position result }
+    ensures { Lays slim (element_trees rangeElement source.registry octets.now source.base.0) tape position result }
 {
     let n = octets.len();
     let first = Position(position.0 + 1);
@@ -189,7 +189,7 @@ pub fn ranges(
     position: Position,
 ) -> Shown
     requires { Room slim (ranges_in source.registry octets.now source.base.0) (length octets.now) source.base.0 tape.old position.0 }
-    ensures { LaysUpTo slim (total (pieces range_length (was octets))) (ranges_in source.registry (was octets) source.base.0) tape position result }
+    ensures { LaysUpTo slim (total (pieces range_length octets.now)) (ranges_in source.registry octets.now source.base.0) tape position result }
 {
     let registry = source.registry;
     let base = source.base.0;

@@ -2,7 +2,7 @@
 ghost use Rattle.std.specs.Prelude.{◌≡◌, true, ◌+◌, ◌/◌, ◌%◌, ◌≤◌, ◌<◌, ◌^◌, length, get_or};
 ghost use Rattle.octets.specs.BigEndian.{big_endian, is_width};
 ghost use Rattle.tape.specs.Forest.{leaf, none};
-ghost use Rattle.tape.specs.Laid.{RoomFor, was, Lays};
+ghost use Rattle.tape.specs.Laid.{RoomFor, Lays};
 ghost use Rattle.meaning.specs.Tree.{content};
 
 use crate::Source;
@@ -51,7 +51,7 @@ pub fn number(
     position: Position,
 ) -> Position
     requires { (is_width width ≡ true) × (at + width ≤ length value.now) × (source.base.0 + length value.now < 2 ^ 32) × RoomFor slim tape.old (position.0 + 1) }
-    ensures { Lays slim (leaf (content label shape source.registry (source.base.0 + at) (source.base.0 + at + width) (big_endian (was value) at width)) none) tape position result }
+    ensures { Lays slim (leaf (content label shape source.registry (source.base.0 + at) (source.base.0 + at + width) (big_endian value.now at width)) none) tape position result }
 {
     let number = read_be(value, at, width);
     part(
@@ -70,7 +70,7 @@ pub fn number8(
     position: Position,
 ) -> Position
     requires { (at + 1 ≤ length value.now) × (source.base.0 + length value.now < 2 ^ 32) × RoomFor slim tape.old (position.0 + 1) }
-    ensures { Lays slim (leaf (content label 0 source.registry (source.base.0 + at) (source.base.0 + at + 1) (big_endian (was value) at 1)) none) tape position result }
+    ensures { Lays slim (leaf (content label 0 source.registry (source.base.0 + at) (source.base.0 + at + 1) (big_endian value.now at 1)) none) tape position result }
 {
     let number = octet(value, at) as u64;
     part(
@@ -97,7 +97,7 @@ pub fn number16(
     position: Position,
 ) -> Position
     requires { (at + 2 ≤ length value.now) × (source.base.0 + length value.now < 2 ^ 32) × RoomFor slim tape.old (position.0 + 1) }
-    ensures { Lays slim (leaf (content label 1 source.registry (source.base.0 + at) (source.base.0 + at + 2) (big_endian (was value) at 2)) none) tape position result }
+    ensures { Lays slim (leaf (content label 1 source.registry (source.base.0 + at) (source.base.0 + at + 2) (big_endian value.now at 2)) none) tape position result }
 {
     let number = read_be_u16(value, at) as u64;
     part(
@@ -124,7 +124,7 @@ pub fn number24(
     position: Position,
 ) -> Position
     requires { (at + 3 ≤ length value.now) × (source.base.0 + length value.now < 2 ^ 32) × RoomFor slim tape.old (position.0 + 1) }
-    ensures { Lays slim (leaf (content label 2 source.registry (source.base.0 + at) (source.base.0 + at + 3) (big_endian (was value) at 3)) none) tape position result }
+    ensures { Lays slim (leaf (content label 2 source.registry (source.base.0 + at) (source.base.0 + at + 3) (big_endian value.now at 3)) none) tape position result }
 {
     let number = read_be_u24(value, at) as u64;
     part(
@@ -151,7 +151,7 @@ pub fn number32(
     position: Position,
 ) -> Position
     requires { (at + 4 ≤ length value.now) × (source.base.0 + length value.now < 2 ^ 32) × RoomFor slim tape.old (position.0 + 1) }
-    ensures { Lays slim (leaf (content label 2 source.registry (source.base.0 + at) (source.base.0 + at + 4) (big_endian (was value) at 4)) none) tape position result }
+    ensures { Lays slim (leaf (content label 2 source.registry (source.base.0 + at) (source.base.0 + at + 4) (big_endian value.now at 4)) none) tape position result }
 {
     let number = read_be_u32(value, at) as u64;
     part(
@@ -178,7 +178,7 @@ pub fn flag(
     position: Position,
 ) -> Position
     requires { (1 ≤ mask) × (1 ≤ length value.now) × (source.base.0 + length value.now < 2 ^ 32) × RoomFor slim tape.old (position.0 + 1) }
-    ensures { Lays slim (leaf (content label 0 source.registry source.base.0 (source.base.0 + 1) (get_or (was value) 0 0 / mask % 2)) none) tape position result }
+    ensures { Lays slim (leaf (content label 0 source.registry source.base.0 (source.base.0 + 1) (get_or value.now 0 0 / mask % 2)) none) tape position result }
 {
     let bit = value[0] / mask % 2;
     let start = source.base.0;

@@ -1,7 +1,7 @@
 // A SID (document 01, 'SID'): the octet count alone decides how wide it is.
 ghost use Rattle.std.specs.Prelude.{◌≡◌, ◌+◌, ◌≤◌, ◌<◌, ◌^◌, length};
 ghost use Rattle.tape.specs.Forest.{leaf, none};
-ghost use Rattle.tape.specs.Laid.{RoomFor, was};
+ghost use Rattle.tape.specs.Laid.{RoomFor};
 ghost use Rattle.meaning.specs.Tree.{content};
 ghost use Rattle.fields.specs.Shows.{LaysUpTo, sid_number, sid_width};
 
@@ -12,7 +12,7 @@ use tape::Position;
 use tape::shape::Shape;
 
 // A SID's number and its width.
-#[derive(Drop)]
+#[derive(Clone, Copy)]
 struct Numbered {
     number: u64,
     width: usize,
@@ -21,7 +21,7 @@ struct Numbered {
 // The SID that begins at `at`: 32 bits where 4 octets are left or more, otherwise the low 20 bits of 3.
 fn read_sid(value: &[u8], at: usize) -> Numbered
     requires { at + 3 ≤ length value.now }
-    ensures { (result.number ≡ sid_number (was value) at) × (result.width ≡ sid_width (was value) at) }
+    ensures { (result.number ≡ sid_number value.now at) × (result.width ≡ sid_width value.now at) }
 {
     if at + 4 <= value.len() {
         return Numbered {
@@ -46,7 +46,7 @@ pub fn sid(
     position: Position,
 ) -> Shown
     requires { (at + 3 ≤ length value.now) × (source.base.0 + length value.now < 2 ^ 32) × RoomFor slim tape.old (position.0 + 1) }
-    ensures { LaysUpTo slim (at + sid_width (was value) at) (leaf (content label 2 source.registry (source.base.0 + at) (source.base.0 + at + sid_width (was value) at) (sid_number (was value) at)) none) tape position result }
+    ensures { LaysUpTo slim (at + sid_width value.now at) (leaf (content label 2 source.registry (source.base.0 + at) (source.base.0 + at + sid_width value.now at) (sid_number value.now at)) none) tape position result }
 {
     let sid = read_sid(value, at);
     let width = sid.width;

@@ -1,7 +1,6 @@
 // Values of registry 0 that are one leaf over all their octets.
 ghost use Rattle.std.specs.Prelude.{◌≡◌, false};
 ghost use Rattle.octets.specs.BigEndian.{big_endian};
-ghost use Rattle.tape.specs.Laid.{was};
 ghost use Rattle.neighbor.specs.Alone.{IsAlone, Told};
 
 use octets::read::{read_be_u24, read_be_u32};
@@ -9,7 +8,7 @@ use tape::label::Label;
 use tape::shape::Shape;
 
 // Whether a value is one leaf over all its octets, and then its label, shape and number.
-#[derive(Drop)]
+#[derive(Clone, Copy)]
 pub struct OneLeaf {
     pub is: bool,
     pub label: u8,
@@ -43,7 +42,7 @@ fn octets_alone(is: bool, label: u8, shape: u8) -> OneLeaf
 
 // A number of 32 bits, where the value has just these.
 fn number32_alone(value: &[u8], label: u8) -> OneLeaf
-    ensures { Told 4 label 2 (big_endian (was value) 0 4) (was value) result }
+    ensures { Told 4 label 2 (big_endian value.now 0 4) value.now result }
 {
     if value.len() != 4 {
         return not_alone();
@@ -58,7 +57,7 @@ fn number32_alone(value: &[u8], label: u8) -> OneLeaf
 
 // A number of 24 bits, where the value has just these.
 fn number24_alone(value: &[u8], label: u8) -> OneLeaf
-    ensures { Told 3 label 2 (big_endian (was value) 0 3) (was value) result }
+    ensures { Told 3 label 2 (big_endian value.now 0 3) value.now result }
 {
     if value.len() != 3 {
         return not_alone();
@@ -73,7 +72,7 @@ fn number24_alone(value: &[u8], label: u8) -> OneLeaf
 
 // A value by its type: the one leaf that it is, or that it is none.
 pub fn alone(value: &[u8], kind: u8) -> OneLeaf
-    ensures { IsAlone kind (was value) result }
+    ensures { IsAlone kind value.now result }
 {
     let n = value.len();
     match kind {

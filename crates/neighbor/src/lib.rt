@@ -1,6 +1,7 @@
 // Registry 0: sub-TLVs of a neighbor (TLVs 22 and 222).
+#![tactic(auto)]
 ghost use Rattle.std.specs.Prelude.{◌≡◌, ◌+◌, ◌≤◌, ◌<◌, ◌^◌, length};
-ghost use Rattle.tape.specs.Laid.{RoomFor, was, Lays};
+ghost use Rattle.tape.specs.Laid.{RoomFor, Lays};
 ghost use Rattle.readings.specs.Reading.{by_row, reading, Asks, Decodes};
 ghost use Rattle.readings.specs.Rows.{system_id, end_x_head};
 
@@ -169,7 +170,7 @@ pub fn end_x_head(
     position: Position,
 ) -> Position
     requires { (at + 5 ≤ length value.now) × (source.base.0 + length value.now < 2 ^ 32) × RoomFor slim tape.old (position.0 + 4) }
-    ensures { Lays slim (end_x_head source.registry (was value) source.base.0 at) tape position result }
+    ensures { Lays slim (end_x_head source.registry value.now source.base.0 at) tape position result }
 {
     let second = number8(value, source, Label::FLAGS, at, tape, slim, position);
     let third = number8(value, source, Label::ALGORITHM, at + 1, tape, slim, second);

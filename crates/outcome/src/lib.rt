@@ -1,9 +1,11 @@
 // What a call gives back (document 01, 'Numbers a call gives back').
+#![tactic(auto)]
+
 ghost use Rattle.std.specs.Prelude.{◌≡◌};
 ghost use Rattle.outcome.specs.Call.{bare, done, refused, no_room, numbers_of};
 
 // The answer, the octets covered, the records (for a name: octets) written and the records needed.
-#[derive(Drop)]
+#[derive(Clone, Copy)]
 pub struct Outcome {
     pub answer: u8,
     pub covered: usize,

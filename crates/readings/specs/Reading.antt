@@ -1,7 +1,7 @@
 -- What a decoder gives for a value: what it takes, and the trees that it shows.
 use Rattle.std.specs.Prelude.{◌≡◌, Bool, cond, List, [], ◌∷◌, ℕ, leb, length}
 use Rattle.tape.specs.Forest.{Forest, none}
-use Rattle.tape.specs.Laid.{Laid, Room, Lent, Used, was}
+use Rattle.tape.specs.Laid.{Laid, Room, Lent, LentTape, Used, UsedTape, was}
 use Rattle.tape.specs.declared.Octet.{Octet}
 use Rattle.tape.specs.declared.Position.{Position}
 use Rattle.meaning.specs.Field.{Field}
@@ -48,9 +48,9 @@ pub record Reads (slim : Bool) (x : Reading) (t u : List ℕ) (at : ℕ) (r : De
   pub laid : Laid slim x.found t u at r.next.0
 
 -- what a decoder asks for, of a value whose first octet stands at base and a tape that is written from position at on: room for what is shown ..
-abbrev pub Asks : Bool → (List ℕ → ℕ → Reading) → Lent → Octet → Lent → Position → Type 0
+abbrev pub Asks : Bool → (List ℕ → ℕ → Reading) → Lent → Octet → LentTape → Position → Type 0
 Asks slim x value base tape at = Room slim (x value.now base.0).found (length value.now) base.0 tape.now at.0
 
 -- .. and what it gives
-abbrev pub Decodes : Bool → (List ℕ → ℕ → Reading) → Used → Octet → Used → Position → Decoded → Type 0
-Decodes slim x value base tape at r = Reads slim (x (was value) base.0) (was tape) tape.exit.now at.0 r
+abbrev pub Decodes : Bool → (List ℕ → ℕ → Reading) → Used → Octet → UsedTape → Position → Decoded → Type 0
+Decodes slim x value base tape at r = Reads slim (x (was value) base.0) tape.entry.now tape.exit.now at.0 r

@@ -1,4 +1,5 @@
 // The registries that give a type its meaning (document 01, 'The registries'), and the call `name`.
+#![tactic(auto)]
 ghost use Rattle.std.specs.Prelude.{◌≡◌};
 ghost use Rattle.outcome.specs.Call.{Gives};
 ghost use Rattle.registry.specs.Registry.{number_of, is_nested, registry_of};
@@ -12,7 +13,7 @@ mod lookup;
 pub mod registries;
 
 // Which registry an area belongs to.
-#[derive(Drop)]
+#[derive(Clone, Copy)]
 pub enum Registry {
     Neighbor,
     Prefix,
@@ -23,7 +24,7 @@ pub enum Registry {
 }
 
 // The registry of a number.
-#[derive(Drop)]
+#[derive(Clone, Copy)]
 pub enum Found {
     Known(Registry),
     Unknown,

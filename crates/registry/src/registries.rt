@@ -8,7 +8,7 @@ use crate::lookup::write_name;
 use outcome::Outcome;
 
 // IANA, IS-IS Sub-TLVs for TLVs Advertising Neighbor Information.
-#[derive(Drop)]
+#[derive(Clone, Copy)]
 pub struct Neighbor;
 
 impl Neighbor {
@@ -73,7 +73,7 @@ impl Neighbor {
 }
 
 // IANA, IS-IS Sub-TLVs for TLVs Advertising Prefix Reachability.
-#[derive(Drop)]
+#[derive(Clone, Copy)]
 pub struct Prefix;
 
 impl Prefix {
@@ -105,7 +105,7 @@ impl Prefix {
 }
 
 // IANA, IS-IS Sub-TLVs for IS-IS Router CAPABILITY TLV.
-#[derive(Drop)]
+#[derive(Clone, Copy)]
 pub struct RouterCapability;
 
 impl RouterCapability {
@@ -159,7 +159,7 @@ impl RouterCapability {
 }
 
 // IANA, IS-IS Sub-TLVs for Segment Identifier/Label Binding TLVs.
-#[derive(Drop)]
+#[derive(Clone, Copy)]
 pub struct Binding;
 
 impl Binding {
@@ -184,7 +184,7 @@ impl Binding {
 }
 
 // IANA, IS-IS Sub-Sub-TLVs for SRv6 SID Sub-TLVs.
-#[derive(Drop)]
+#[derive(Clone, Copy)]
 pub struct Srv6Sid;
 
 impl Srv6Sid {
@@ -208,7 +208,7 @@ impl Srv6Sid {
 }
 
 // Sub-sub-TLVs without a registry, those of SRv6 Capabilities (RFC 9352, section 2).
-#[derive(Drop)]
+#[derive(Clone, Copy)]
 pub struct Unregistered;
 
 impl Unregistered {

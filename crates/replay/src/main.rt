@@ -2,6 +2,7 @@
 // what the list says, and prints how many of them agreed. A case of the list, numbers big-endian: registry (1 octet), base (4),
 // octets of the area (2), covered (2), records (2), the area, and for each record label, shape, registry (1 each), first octet
 // and one past the last, less the base (2 each), number (8), first child and one past the last descendant (2 each).
+#![tactic(auto)]
 ghost use Rattle.std.specs.Prelude.{◌≡◌, ◌<◌, ◌≤◌, length};
 
 use calls::{clear, read};

@@ -4,7 +4,7 @@ ghost use Rattle.tape.specs.Record.{leaf_record, container_record};
 ghost use Rattle.tape.specs.Tape.{put_at, store};
 ghost use Rattle.tape.specs.Forest.{leaf, node, none};
 ghost use Rattle.tape.specs.Near.{NearContent};
-ghost use Rattle.tape.specs.Laid.{RoomFor, Lays, was};
+ghost use Rattle.tape.specs.Laid.{RoomFor, Lays};
 
 use crate::words::put;
 use tape::{Content, Position};
@@ -22,7 +22,7 @@ pub fn leaf(tape: &mut [u64], slim: bool, at: Position, content: Content) -> Pos
 // Lays a container at position `at`, whose children stand behind it, up to position `next`.
 pub fn container(tape: &mut [u64], slim: bool, at: Position, content: Content, next: Position)
     requires { RoomFor slim tape.old next.0 × (at.0 < next.0) × NearContent content }
-    ensures { tape.new ≡ put_at slim (was tape) at.0 (container_record content (at.0 + 1) next.0) }
+    ensures { tape.new ≡ put_at slim tape.old at.0 (container_record content (at.0 + 1) next.0) }
 {
     let p = at.0;
     put(tape, slim, at, content.container(Position(p + 1), next));
@@ -39,7 +39,7 @@ pub fn container_of_two(
     next: Position,
 )
     requires { RoomFor slim tape.old next.0 × (at.0 + 3 ≤ next.0) × NearContent content × NearContent first × NearContent second }
-    ensures { tape.new ≡ store slim (was tape) at.0 (container_record content (at.0 + 1) next.0 ∷ leaf_record first ∷ leaf_record second ∷ []) }
+    ensures { tape.new ≡ store slim tape.old at.0 (container_record content (at.0 + 1) next.0 ∷ leaf_record first ∷ leaf_record second ∷ []) }
 {
     let p = at.0;
     put(tape, slim, at, content.container(Position(p + 1), next));

@@ -1,9 +1,9 @@
 // The calls walk and push (document 01, 'Numbers a call gives back'): the checks in their order, a count where room may be
 // short, and then the writing. Each call has all of it to itself, so that the back end makes one function of it.
+#![tactic(auto)]
 ghost use Rattle.std.specs.Prelude.{◌≡◌, true, ◌-◌, ◌≤◌, length};
 ghost use Rattle.outcome.specs.Call.{Gives};
 ghost use Rattle.tape.specs.Tape.{used, room, headed, with_used};
-ghost use Rattle.tape.specs.Laid.{was};
 ghost use Rattle.meaning.specs.AreaCall.{walk_call, push_call};
 ghost use Rattle.subtlv.specs.Checks.{Checked, done};
 
@@ -22,7 +22,7 @@ const OCTETS: usize = 3;
 
 // The checks 2 to 4 in their order: the answer of the first that fails, or that of a call that is done.
 fn check(area: &[u8], base: Octet, tape: &[u64], slim: bool) -> u8
-    ensures { Checked slim (was area) base.0 (was tape) result }
+    ensures { Checked slim area.now base.0 tape.old result }
 {
     let n = area.len();
     if 65535 < n {
@@ -40,7 +40,7 @@ fn check(area: &[u8], base: Octet, tape: &[u64], slim: bool) -> u8
 // How many records there is room for behind those that are used.
 fn free(tape: &[u64], slim: bool) -> usize
     requires { headed slim tape.now ≡ true }
-    ensures { result ≡ room slim (was tape) - used (was tape) }
+    ensures { result ≡ room slim tape.old - used tape.old }
 {
     let at = used(tape);
     room_of(slim, tape.len()) - at.0
@@ -49,7 +49,7 @@ fn free(tape: &[u64], slim: bool) -> usize
 // Counts the records that were laid from position `at` on among the used ones.
 fn count_in(tape: &mut [u64], at: Position, shown: Shown) -> Outcome
     requires { (4 ≤ length tape.old) × (at.0 ≤ shown.next.0) }
-    ensures { (result ≡ done shown.covered (shown.next.0 - at.0)) × (tape.new ≡ with_used shown.next.0 (was tape)) }
+    ensures { (result ≡ done shown.covered (shown.next.0 - at.0)) × (tape.new ≡ with_used shown.next.0 tape.old) }
 {
     let covered = shown.covered;
     let next = shown.next;

@@ -68,4 +68,4 @@ unfolding flat
 flat_moved none at d = refl
 flat_moved (leaf m f) at d = rw (← flat_moved f (suc at) d, suc-add)
 flat_moved (node m k f) at d =
-    rw (map-++, ← flat_moved k (suc at) d, ← flat_moved f (suc at + size k) d) (simp (suc-add, add_right_comm at d (size k)))
+    rw (map-++ (moved d), ← flat_moved k (suc at) d, ← flat_moved f (suc at + size k) d) (simp (suc-add, add_right_comm at d (size k)))

@@ -1,6 +1,6 @@
 -- The contract of a function that writes records: what it asks for, and what it leaves.
 use Rattle.std.specs.Prelude.{◌≡◌, Bool, List, ℕ, ◌+◌, ◌^◌, ◌<◌, ◌≤◌}
-use Rattle.std.specs.Borrow.{Bor}
+use Rattle.std.specs.Borrow.{Bor, MutBor}
 use denote.Triple.Both.{Both}
 use Rattle.tape.specs.Tape.{room, store}
 use Rattle.tape.specs.Forest.{Forest, size, flat}
@@ -22,7 +22,7 @@ pub record Room (slim : Bool) (f : Forest) (n base : ℕ) (t : List ℕ) (at : �
   pub octet : base + n < 2 ^ 32
   pub position : RoomFor slim t (at + size f)
 
--- the same of a function's parameters: a slice that it was lent, as it is passed ..
+-- the same of a function's parameters: a slice that it was lent to read, as it is passed ..
 abbrev pub Lent : Type 0
 Lent = Bor (List ℕ)
 
@@ -34,6 +34,14 @@ Used = Both Lent Lent
 abbrev pub was : Used → List ℕ
 was slice = slice.entry.now
 
+-- a tape that it was lent to write, as it is passed ..
+abbrev pub LentTape : Type 0
+LentTape = MutBor (List ℕ)
+
+-- .. and as it was passed and is when the function returns
+abbrev pub UsedTape : Type 0
+UsedTape = Both LentTape LentTape
+
 -- a function lays the forest f on a tape, from position at up to position next
-abbrev pub Lays : Bool → Forest → Used → Position → Position → Type 0
-Lays slim f tape at next = Laid slim f (was tape) tape.exit.now at.0 next.0
+abbrev pub Lays : Bool → Forest → UsedTape → Position → Position → Type 0
+Lays slim f tape at next = Laid slim f tape.entry.now tape.exit.now at.0 next.0

@@ -1,5 +1,5 @@
 // The labels of document 01: 0 to 46 are the field numbers of docs/src, 47 to 56 are those that 01 adds.
-#[derive(Drop)]
+#[derive(Clone, Copy)]
 pub struct Label;
 
 impl Label {

@@ -1,4 +1,6 @@
 // The tape (document 01, 'The tape'): a lent slice of words, four of header and then records of six.
+#![tactic(auto)]
+
 ghost use Rattle.std.specs.Prelude.{◌≡◌};
 ghost use Rattle.tape.specs.Record.{label_of, shape_of, registry_in, leaf_record, container_record, zeros, words};
 
@@ -6,15 +8,15 @@ pub mod label;
 pub mod shape;
 
 // A packet offset: an octet's place, base added.
-#[derive(Drop)]
+#[derive(Clone, Copy)]
 pub struct Octet(pub usize);
 
 // A tape position: which record, the first at 0.
-#[derive(Drop)]
+#[derive(Clone, Copy)]
 pub struct Position(pub usize);
 
 // A record without its positions: what it is, its first octet and one past its last, its number.
-#[derive(Drop)]
+#[derive(Clone, Copy)]
 pub struct Content {
     pub label: u8,
     pub shape: u8,
@@ -25,7 +27,7 @@ pub struct Content {
 }
 
 // The six words of a record: `first` is its first child, `past` one past its last descendant.
-#[derive(Drop)]
+#[derive(Clone, Copy)]
 pub struct Record {
     pub tag: u64,
     pub start: Octet,

@@ -1,5 +1,5 @@
 // The shapes of document 01: what a record's number or octets are. Arrays and objects are containers.
-#[derive(Drop)]
+#[derive(Clone, Copy)]
 pub struct Shape;
 
 impl Shape {

@@ -1,6 +1,6 @@
 // An entry around its value: what its decoder leaves, and the object, the type and the length.
 ghost use Rattle.std.specs.Prelude.{◌≡◌, ◌+◌, ◌≤◌, ◌<◌, ◌^◌, length, drop};
-ghost use Rattle.tape.specs.Laid.{Room, RoomFor, was, Lays};
+ghost use Rattle.tape.specs.Laid.{Room, RoomFor, Lays};
 ghost use Rattle.meaning.specs.Tree.{content, raw as rawTrees};
 ghost use Rattle.walk.specs.Rest.{rest_of};
 ghost use Rattle.walk.specs.Entry.{entry_of, leaf_entry, AsksAround, Completes};
@@ -15,7 +15,7 @@ use tape::shape::Shape;
 use tape::{Content, Octet, Position};
 
 // An entry: its registry, the place of its first octet, its type and its length.
-#[derive(Drop)]
+#[derive(Clone, Copy)]
 pub struct Entry {
     pub registry: u8,
     pub base: Octet,
@@ -27,7 +27,7 @@ impl Entry {
     // The entry that octets are.
     pub fn of(octets: &[u8], base: Octet, registry: u8) -> Entry
         requires { 2 ≤ length octets.now }
-        ensures { result ≡ entry_of registry base (was octets) }
+        ensures { result ≡ entry_of registry base octets.now }
     {
         Entry {
             registry,
@@ -112,7 +112,7 @@ pub fn raw(
     position: Position,
 ) -> Position
     requires { Room slim (rawTrees source.registry (source.base.0 + at) (drop at octets.now)) (length octets.now) source.base.0 tape.old position.0 }
-    ensures { Lays slim (rawTrees source.registry (source.base.0 + at) (drop at (was octets))) tape position result }
+    ensures { Lays slim (rawTrees source.registry (source.base.0 + at) (drop at octets.now)) tape position result }
 {
     let n = octets.len();
     if n <= at {
@@ -141,7 +141,7 @@ fn rest(
     position: Position,
 ) -> Position
     requires { Room slim (rest_of source.registry value.now source.base.0 taken) (length value.now) source.base.0 tape.old position.0 }
-    ensures { Lays slim (rest_of source.registry (was value) source.base.0 taken) tape position result }
+    ensures { Lays slim (rest_of source.registry value.now source.base.0 taken) tape position result }
 {
     match taken {
         Taken::Octets(k) => raw(value, source, k, tape, slim, position),

@@ -1,8 +1,9 @@
 // The walk of an area: a walk decodes an entry, and an entry walks again. The remaining octets fall. A registry whose values may
 // hold an area has functions of its own, so that its number is a constant in all that they write; the others are in `plain`.
+#![tactic(auto)]
 ghost use Rattle.std.specs.Prelude.{◌+◌, ◌≤◌, ◌<◌, ◌^◌, length};
 ghost use Rattle.registry.specs.Registry.{number_of};
-ghost use Rattle.tape.specs.Laid.{Room, RoomFor, was, Lays};
+ghost use Rattle.tape.specs.Laid.{Room, RoomFor, Lays};
 ghost use Rattle.meaning.specs.Frame.{covered};
 ghost use Rattle.meaning.specs.Field.{tail as tailField};
 ghost use Rattle.meaning.specs.Table.{usual};
@@ -68,7 +69,7 @@ fn tail(
     position: Position,
 ) -> Decoded
     requires { (at + 16 ≤ length value.now) × Room slim (field_trees (walked usual) source.registry value.now source.base.0 (tailField at)) (length value.now) source.base.0 tape.old position.0 }
-    ensures { Reads slim (took (field_end (was value) (tailField at)) (field_trees (walked usual) source.registry (was value) source.base.0 (tailField at))) (was tape) tape.new position.0 result }
+    ensures { Reads slim (took (field_end value.now (tailField at)) (field_trees (walked usual) source.registry value.now source.base.0 (tailField at))) tape.old tape.new position.0 result }
 {
     let n = value.len();
     let base = source.base.0;
@@ -227,7 +228,7 @@ fn neighbor_entry(
     at: Position,
 ) -> Position
     requires { (2 ≤ length octets.now) × AsksFor slim (entry_in 0) octets base tape at }
-    ensures { Lays slim (entry_in 0 (was octets) base.0) tape at result }
+    ensures { Lays slim (entry_in 0 octets.now base.0) tape at result }
 {
     let n = octets.len();
     let entry = Entry::of(octets, base, Neighbor::NUMBER as u8);
@@ -247,7 +248,7 @@ fn neighbor_entry(
 #[cycle(nesting)]
 fn prefix_entry(octets: &[u8], base: Octet, tape: &mut [u64], slim: bool, at: Position) -> Position
     requires { (2 ≤ length octets.now) × AsksFor slim (entry_in 1) octets base tape at }
-    ensures { Lays slim (entry_in 1 (was octets) base.0) tape at result }
+    ensures { Lays slim (entry_in 1 octets.now base.0) tape at result }
 {
     let n = octets.len();
     let entry = Entry::of(octets, base, Prefix::NUMBER as u8);
@@ -263,7 +264,7 @@ fn prefix_entry(octets: &[u8], base: Octet, tape: &mut [u64], slim: bool, at: Po
 #[cycle(nesting)]
 fn router_entry(octets: &[u8], base: Octet, tape: &mut [u64], slim: bool, at: Position) -> Position
     requires { (2 ≤ length octets.now) × AsksFor slim (entry_in 2) octets base tape at }
-    ensures { Lays slim (entry_in 2 (was octets) base.0) tape at result }
+    ensures { Lays slim (entry_in 2 octets.now base.0) tape at result }
 {
     let n = octets.len();
     let entry = Entry::of(octets, base, RouterCapability::NUMBER as u8);
@@ -279,7 +280,7 @@ fn router_entry(octets: &[u8], base: Octet, tape: &mut [u64], slim: bool, at: Po
 #[cycle(nesting)]
 fn neighbor_area(area: &[u8], base: Octet, tape: &mut [u64], slim: bool, at: Position) -> Shown
     requires { (0 < length area.now) × AsksFor slim (walked usual 0) area base tape at }
-    ensures { LaysUpTo slim (covered (was area)) (walked usual 0 (was area) base.0) tape at result }
+    ensures { LaysUpTo slim (covered area.now) (walked usual 0 area.now base.0) tape at result }
 {
     let mut left = area;
     let mut place = base;
@@ -315,7 +316,7 @@ fn neighbor_area(area: &[u8], base: Octet, tape: &mut [u64], slim: bool, at: Pos
 #[cycle(nesting)]
 fn prefix_area(area: &[u8], base: Octet, tape: &mut [u64], slim: bool, at: Position) -> Shown
     requires { (0 < length area.now) × AsksFor slim (walked usual 1) area base tape at }
-    ensures { LaysUpTo slim (covered (was area)) (walked usual 1 (was area) base.0) tape at result }
+    ensures { LaysUpTo slim (covered area.now) (walked usual 1 area.now base.0) tape at result }
 {
     let mut left = area;
     let mut place = base;
@@ -351,7 +352,7 @@ fn prefix_area(area: &[u8], base: Octet, tape: &mut [u64], slim: bool, at: Posit
 #[cycle(nesting)]
 fn router_area(area: &[u8], base: Octet, tape: &mut [u64], slim: bool, at: Position) -> Shown
     requires { (0 < length area.now) × AsksFor slim (walked usual 2) area base tape at }
-    ensures { LaysUpTo slim (covered (was area)) (walked usual 2 (was area) base.0) tape at result }
+    ensures { LaysUpTo slim (covered area.now) (walked usual 2 area.now base.0) tape at result }
 {
     let mut left = area;
     let mut place = base;
@@ -394,7 +395,7 @@ fn area(
     at: Position,
 ) -> Shown
     requires { (0 < length octets.now) × AsksFor slim (walked usual (number_of registry)) octets base tape at }
-    ensures { LaysUpTo slim (covered (was octets)) (walked usual (number_of registry) (was octets) base.0) tape at result }
+    ensures { LaysUpTo slim (covered octets.now) (walked usual (number_of registry) octets.now base.0) tape at result }
 {
     match registry {
         Registry::Neighbor => neighbor_area(octets, base, tape, slim, at),
@@ -415,7 +416,7 @@ pub fn walk(
     at: Position,
 ) -> Shown
     requires { AsksFor slim (walked usual (number_of registry)) area base tape at }
-    ensures { LaysUpTo slim (covered (was area)) (walked usual (number_of registry) (was area) base.0) tape at result }
+    ensures { LaysUpTo slim (covered area.now) (walked usual (number_of registry) area.now base.0) tape at result }
 {
     if area.len() == 0 {
         return Shown {
@@ -437,7 +438,7 @@ pub fn push(
     at: Position,
 ) -> Shown
     requires { AsksFor slim (pushed usual (number_of registry)) area base tape at }
-    ensures { LaysUpTo slim (covered (was area)) (pushed usual (number_of registry) (was area) base.0) tape at result }
+    ensures { LaysUpTo slim (covered area.now) (pushed usual (number_of registry) area.now base.0) tape at result }
 {
     let shown = walk(area, base, registry, tape, slim, at);
     let covered = shown.covered;

@@ -1,7 +1,7 @@
 // Registries 3 to 5: values that hold no area of their own.
 ghost use Rattle.std.specs.Prelude.{◌+◌, ◌≤◌, ◌<◌, length};
 ghost use Rattle.registry.specs.Registry.{number_of};
-ghost use Rattle.tape.specs.Laid.{was, Lays};
+ghost use Rattle.tape.specs.Laid.{Lays};
 ghost use Rattle.meaning.specs.Frame.{covered};
 ghost use Rattle.meaning.specs.Table.{usual};
 ghost use Rattle.meaning.specs.Area.{walked};
@@ -23,7 +23,7 @@ use tape::{Octet, Position};
 // Lays an entry of registry 3.
 fn binding_entry(octets: &[u8], base: Octet, tape: &mut [u64], slim: bool, at: Position) -> Position
     requires { (2 ≤ length octets.now) × AsksFor slim (entry_in 3) octets base tape at }
-    ensures { Lays slim (entry_in 3 (was octets) base.0) tape at result }
+    ensures { Lays slim (entry_in 3 octets.now base.0) tape at result }
 {
     let n = octets.len();
     let entry = Entry::of(octets, base, Binding::NUMBER as u8);
@@ -44,7 +44,7 @@ fn srv6_sid_entry(
     at: Position,
 ) -> Position
     requires { (2 ≤ length octets.now) × AsksFor slim (entry_in 4) octets base tape at }
-    ensures { Lays slim (entry_in 4 (was octets) base.0) tape at result }
+    ensures { Lays slim (entry_in 4 octets.now base.0) tape at result }
 {
     let n = octets.len();
     let entry = Entry::of(octets, base, Srv6Sid::NUMBER as u8);
@@ -65,7 +65,7 @@ fn unregistered_entry(
     at: Position,
 ) -> Position
     requires { (2 ≤ length octets.now) × AsksFor slim (entry_in 5) octets base tape at }
-    ensures { Lays slim (entry_in 5 (was octets) base.0) tape at result }
+    ensures { Lays slim (entry_in 5 octets.now base.0) tape at result }
 {
     let n = octets.len();
     let entry = Entry::of(octets, base, Unregistered::NUMBER as u8);
@@ -88,7 +88,7 @@ fn plain_entry(
     at: Position,
 ) -> Position
     requires { (3 ≤ number_of registry) × (2 ≤ length octets.now) × AsksFor slim (entry_in (number_of registry)) octets base tape at }
-    ensures { Lays slim (entry_in (number_of registry) (was octets) base.0) tape at result }
+    ensures { Lays slim (entry_in (number_of registry) octets.now base.0) tape at result }
 {
     match registry {
         Registry::Binding => binding_entry(octets, base, tape, slim, at),
@@ -107,7 +107,7 @@ pub fn plain_area(
     at: Position,
 ) -> Shown
     requires { (3 ≤ number_of registry) × (0 < length area.now) × AsksFor slim (walked usual (number_of registry)) area base tape at }
-    ensures { LaysUpTo slim (covered (was area)) (walked usual (number_of registry) (was area) base.0) tape at result }
+    ensures { LaysUpTo slim (covered area.now) (walked usual (number_of registry) area.now base.0) tape at result }
 {
     let mut left = area;
     let mut place = base;

@@ -1,0 +1,30 @@
+-- Three records are put, one after the other.
+use lib.ListN.{length}
+use Rattle.tape.specs.NearLaws.{kept_leaf, kept_container}
+use mathlib.Core.Path.{◌∙◌}
+use native.Mathlib.Omega.{arith}
+use Rattle.tape.specs.TapeLaws.{put_three}
+use borrow.Author.Rules.{rules}
+use Rattle.store.proofs.lay.container_of_two.Goals as goal
+
+pub put-requires : goal.put-requires
+put-requires c =
+    let asked = c.requires in
+    (record { fits = omega (arith, asked.0, asked.1); small = asked.0.small }, rw c.container.ensures (kept_container c.args.slim (length c.args.tape.now) asked.2 (omega (arith, c.requires.0, c.requires.1)) c.requires.0.fits))
+
+pub put-requires-2 : goal.put-requires-2
+put-requires-2 c =
+    let asked = c.requires in
+    let kept = c.put.ensures.1 in
+    (record { fits = omega (arith, asked.0, asked.1, kept); small = omega (arith, asked.0, kept) }, rw c.leaf.ensures (kept_leaf c.args.slim asked.3))
+
+pub put-requires-3 : goal.put-requires-3
+put-requires-3 c =
+    let asked = c.requires in
+    let kept = c.put-2.ensures.1 ∙ c.put.ensures.1 in
+    (record { fits = omega (arith, asked.0, asked.1, kept); small = omega (arith, asked.0, kept) }, rw c.leaf-2.ensures (kept_leaf c.args.slim asked.4))
+
+pub returns : goal.returns
+returns c =
+    rw (← c.leaf-2.ensures, ← c.leaf.ensures, ← c.container.ensures)
+    (put_three _ _ _ _ _ _ c.put.ensures.0 c.put-2.ensures.0 c.put-3.ensures.0)
