@@ -5,7 +5,7 @@ use borrow.Author.Rules.{rules}
 use Rattle.registry.proofs.name.Goals as goal
 
 pub returns-in_default : goal.returns-in_default
-returns-in_default c = unknown_refused _ _ (sym c.of.ensures ∙ c.enum_told-1.given.1) c.refused.ensures
+returns-in_default c = unknown_refused _ _ (sym c.of.ensures ∙ c.in_default.is) c.refused.ensures
 
 pub returns : goal.returns
 returns c = known_named _ _ (sym c.of.ensures ∙ c.in-Known.is) c.name.ensures
