@@ -5,6 +5,7 @@ use mathlib.Core.Path.{sym}
 use mathlib.Core.Logic.{inl, inr, ⊎_elim}
 use Rattle.meaning.specs.PlaceLaws.{range_few, range_other, range_neither, range_here, range_over}
 use borrow.Author.Rules.{rules}
+use Rattle.fields.proofs.array.range_length.Goals.{then-width-ne3+else-width-ne4, else-width-ne3}
 use Rattle.fields.proofs.array.range_length.Goals as goal
 
 pub returns-then-left-lt5 : goal.returns-then-left-lt5
@@ -23,7 +24,7 @@ pub overflow_add-length : goal.overflow_add-length
 overflow_add-length c = omega (arith, c.type_inv.octets (c.args.at + 4))
 
 pub returns-then-left-length : goal.returns-then-left-length
-returns-then-left-length c = sym (range_over _ _ c.requires c.if-octets-at-ne1.false (⊎_elim (λ w. inr w.1.left) (λ w. inl w.left) c.if-width-ne3.branch) (omega arith))
+returns-then-left-length c = sym (range_over _ _ c.requires c.if-octets-at-ne1.false (elim c.if-width-ne3.branch [ then-width-ne3+else-width-ne4 w ↦ inr w.if-width-ne4.false | else-width-ne3 w ↦ inl w.if-width-ne3.false ]) (omega arith))
 
 pub returns-else-left-length : goal.returns-else-left-length
-returns-else-left-length c = sym (range_here _ _ c.requires c.if-octets-at-ne1.false (⊎_elim (λ w. inr w.1.left) (λ w. inl w.left) c.if-width-ne3.branch) (omega arith))
+returns-else-left-length c = sym (range_here _ _ c.requires c.if-octets-at-ne1.false (elim c.if-width-ne3.branch [ then-width-ne3+else-width-ne4 w ↦ inr w.if-width-ne4.false | else-width-ne3 w ↦ inl w.if-width-ne3.false ]) (omega arith))
