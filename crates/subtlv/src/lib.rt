@@ -22,7 +22,7 @@ const OCTETS: usize = 3;
 
 // The checks 2 to 4 in their order: the answer of the first that fails, or that of a call that is done.
 fn check(area: &[u8], base: Octet, tape: &[u64], slim: bool) -> u8
-    ensures { Checked slim area.now base.0 tape.old result }
+    ensures { Checked slim area.now base.0 tape.now result }
 {
     let n = area.len();
     if 65535 < n {
@@ -40,7 +40,7 @@ fn check(area: &[u8], base: Octet, tape: &[u64], slim: bool) -> u8
 // How many records there is room for behind those that are used.
 fn free(tape: &[u64], slim: bool) -> usize
     requires { headed slim tape.now ≡ true }
-    ensures { result ≡ room slim tape.old - used tape.old }
+    ensures { result ≡ room slim tape.now - used tape.now }
 {
     let at = used(tape);
     room_of(slim, tape.len()) - at.0
