@@ -1,0 +1,7 @@
+-- The call's outcome, as numbers.
+use Rattle.outcome.specs.CallLaws.{gives_numbers}
+use borrow.Author.Rules.{rules}
+use Rattle.capi.proofs.wakkemosut_clear.Goals as goal
+
+pub returns : goal.returns
+returns c = gives_numbers c.numbers.ensures c.clear-outcome.ensures
