@@ -1,5 +1,6 @@
 // The calls clear, cut back and read (document 01, 'Numbers a call gives back').
 #![tactic(auto)]
+
 ghost use Rattle.std.specs.Prelude.{◌≡◌, ◌+◌, ◌*◌, ◌≤◌};
 ghost use Rattle.outcome.specs.Call.{Gives};
 ghost use Rattle.tape.specs.Tape.{load, room};

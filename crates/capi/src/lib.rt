@@ -2,6 +2,7 @@
 // outcome, its four numbers go to a place that the caller lends. What is lent is there, and no two of its parts overlap;
 // a length of 0 takes any pointer.
 #![tactic(auto)]
+
 ghost use Rattle.std.specs.Prelude.{◌≡◌, false};
 ghost use Rattle.octets.specs.Mask.{Masks};
 ghost use Rattle.outcome.specs.Call.{GivesNumbers};

@@ -1,5 +1,6 @@
 // The C boundary of the slim tape (document 02, request 09): each call on a tape, in records of four words.
 #![tactic(auto)]
+
 ghost use Rattle.std.specs.Prelude.{◌≡◌, true};
 ghost use Rattle.outcome.specs.Call.{GivesNumbers};
 ghost use Rattle.calls.specs.Calls.{clear_call, cut_back_call, read_call, GivesRecord};

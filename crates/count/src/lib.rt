@@ -1,5 +1,6 @@
 // How many records an area becomes, by the numbers of the table's rows: nothing is laid.
 #![tactic(auto)]
+
 ghost use Rattle.std.specs.Prelude.{◌≡◌, ℕ, ◌+◌, ◌≤◌, ◌<◌, ◌^◌, length};
 ghost use Rattle.registry.specs.Registry.{number_of};
 ghost use Rattle.tape.specs.Forest.{size};

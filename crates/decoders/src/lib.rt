@@ -1,6 +1,7 @@
 // The decoders of all registries but the neighbor's: how a value is read, by type, in the order of docs/src. The types that hold
 // an area of their own (SRv6 SIDs, SRv6 capabilities) have here only what stands before it.
 #![tactic(auto)]
+
 pub mod binding;
 pub mod prefix;
 pub mod router_capability;

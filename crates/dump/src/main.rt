@@ -1,6 +1,7 @@
 // dump (document 01): reads a registry octet, four octets of base and an area of up to 768 octets on standard input, pushes the
 // area onto a clear tape and prints the outcome, then the records. A refusal prints the first line only.
 #![tactic(auto)]
+
 ghost use Rattle.std.specs.Prelude.{◌≡◌, true};
 ghost use Rattle.outcome.specs.Call.{Gives};
 ghost use Rattle.calls.specs.Calls.{read_call};

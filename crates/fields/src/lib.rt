@@ -1,5 +1,6 @@
 // The fields of a value: one part, a bit, a SID, arrays. Each lays on the tape what the definition shows, and nothing else.
 #![tactic(auto)]
+
 use tape::{Octet, Position};
 
 pub mod array;

@@ -1,5 +1,6 @@
 // names: prints every name that a registry gives a type, a line each: registry, type, name.
 #![tactic(auto)]
+
 use libc::STDOUT_FILENO;
 
 // Prints one line.

@@ -1,5 +1,6 @@
 // Registry 0: sub-TLVs of a neighbor (TLVs 22 and 222).
 #![tactic(auto)]
+
 ghost use Rattle.std.specs.Prelude.{◌≡◌, ◌+◌, ◌≤◌, ◌<◌, ◌^◌, length};
 ghost use Rattle.tape.specs.Laid.{RoomFor, Lays};
 ghost use Rattle.readings.specs.Reading.{by_row, reading, Asks, Decodes};

@@ -1,5 +1,6 @@
 // What a decoder gives, and the readings that several types share.
 #![tactic(auto)]
+
 use tape::Position;
 
 pub mod rows;

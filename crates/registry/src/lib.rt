@@ -1,5 +1,6 @@
 // The registries that give a type its meaning (document 01, 'The registries'), and the call `name`.
 #![tactic(auto)]
+
 ghost use Rattle.std.specs.Prelude.{◌≡◌};
 ghost use Rattle.outcome.specs.Call.{Gives};
 ghost use Rattle.registry.specs.Registry.{number_of, is_nested, registry_of};

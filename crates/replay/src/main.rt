@@ -3,6 +3,7 @@
 // octets of the area (2), covered (2), records (2), the area, and for each record label, shape, registry (1 each), first octet
 // and one past the last, less the base (2 each), number (8), first child and one past the last descendant (2 each).
 #![tactic(auto)]
+
 ghost use Rattle.std.specs.Prelude.{◌≡◌, ◌<◌, ◌≤◌, length};
 
 use calls::{clear, read};

@@ -1,6 +1,7 @@
 // The calls walk and push (document 01, 'Numbers a call gives back'): the checks in their order, a count where room may be
 // short, and then the writing. Each call has all of it to itself, so that the back end makes one function of it.
 #![tactic(auto)]
+
 ghost use Rattle.std.specs.Prelude.{◌≡◌, true, ◌-◌, ◌≤◌, length};
 ghost use Rattle.outcome.specs.Call.{Gives};
 ghost use Rattle.tape.specs.Tape.{used, room, headed, with_used};

@@ -1,6 +1,7 @@
 // The walk of an area: a walk decodes an entry, and an entry walks again. The remaining octets fall. A registry whose values may
 // hold an area has functions of its own, so that its number is a constant in all that they write; the others are in `plain`.
 #![tactic(auto)]
+
 ghost use Rattle.std.specs.Prelude.{◌+◌, ◌≤◌, ◌<◌, ◌^◌, length};
 ghost use Rattle.registry.specs.Registry.{number_of};
 ghost use Rattle.tape.specs.Laid.{Room, RoomFor, Lays};
