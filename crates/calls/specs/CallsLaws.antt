@@ -11,7 +11,6 @@ use Rattle.outcome.specs.Call.{done, refusal, finished, numbers_of}
 use Rattle.outcome.specs.AnswersLaws.{Fails, fails_leb, fails_and, fails_as}
 use Rattle.tape.specs.Both.{and_assoc, and_yes, and_no}
 use Rattle.tape.specs.Record.{words}
-use Rattle.tape.specs.Layout.{width}
 use Rattle.tape.specs.Tape.{InOrder, used, headed, with_used, record_at, load}
 use Rattle.tape.specs.LoadLaws.{load_append}
 use Rattle.calls.specs.Calls.{cleared, clear_call, end_by, cut_back_call, readable, no_record, read_call, GivesRecord}

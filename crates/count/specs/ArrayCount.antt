@@ -8,7 +8,6 @@ use Rattle.std.proofs.Math.ListN.{length}
 use Rattle.std.proofs.Math.Seq.{length-take-le}
 use Rattle.tape.specs.Forest.{Forest, size, ◌⧺◌}
 use Rattle.tape.specs.ForestLaws.{size-⧺}
-use Rattle.meaning.specs.Label
 use Rattle.meaning.specs.Label.{Label}
 use Rattle.meaning.specs.Shape.{Shape, u8, u32, u64}
 use Rattle.meaning.specs.Cut.{pieces, total, each}

@@ -2,7 +2,6 @@
 use Rattle.std.specs.Prelude.{List, ℕ, ◌+◌, length, get_or, take, drop}
 use Rattle.octets.specs.BigEndian.{big_endian}
 use Rattle.tape.specs.Forest.{Forest, ◌⧺◌}
-use Rattle.meaning.specs.Label
 use Rattle.meaning.specs.Label.{Label}
 use Rattle.meaning.specs.Shape.{u8, u32, array as arrayShape, object}
 use Rattle.meaning.specs.Cut.{Measure, pieces, total, each}

@@ -3,7 +3,6 @@ use Rattle.std.specs.Prelude.{cond, List, [], ◌∷◌, ℕ, ◌+◌, length}
 use Rattle.octets.specs.BigEndian.{big_endian}
 use Rattle.tape.specs.Forest.{Forest, none, leaf, node}
 use Rattle.tape.specs.declared.Content.{Content}
-use Rattle.meaning.specs.Label
 use Rattle.meaning.specs.Label.{Label, number}
 use Rattle.meaning.specs.Shape.{Shape, bytes, Container, shape_number, container_number, has_number}
 

@@ -1,12 +1,12 @@
 -- The types whose values may be one leaf, and all that are not read.
 use Rattle.std.specs.Prelude.{◌≡◌, refl, true, false, List, [], ◌∷◌, ℕ, ◌+◌, ◌≤◌, eqb, length}
-use Rattle.std.proofs.Common.{sym, ap, ◌∙◌, add-zero, zero-add, arith, le-leb, eqb-true}
+use Rattle.std.proofs.Common.{sym, ◌∙◌, add-zero, arith, le-leb, eqb-true}
 use Rattle.tape.specs.Forest.{none, leaf, ◌⧺◌}
 use Rattle.meaning.specs.Label.{Label, number}
 use Rattle.meaning.specs.Shape.{Shape, shape_number}
 use Rattle.meaning.specs.Tree.{content, number_in}
 use Rattle.meaning.specs.AreaLaws.{raw_none}
-use Rattle.meaning.specs.Field.{Field, part}
+use Rattle.meaning.specs.Field.{part}
 use Rattle.meaning.specs.Table.{usual, table}
 use Rattle.meaning.specs.TableLaws.{NoneOf, types_of, usual_unknown, least_in, fields_in, OneRow}
 use Rattle.meaning.specs.Value.{Walk, value_trees, fields_trees, field_trees, taken, field_end}

@@ -1,7 +1,7 @@
 -- Fields that are one record each, and the room that a row of such fields asks for.
 use Rattle.std.specs.Prelude.{◌≡◌, refl, List, [], ◌∷◌, Bool, ℕ, ◌+◌, ◌^◌, ◌≤◌, ◌<◌, length}
-use Rattle.std.proofs.Common.{ap, ◌∙◌, arith}
-use Rattle.tape.specs.Forest.{Forest, size, ◌⧺◌}
+use Rattle.std.proofs.Common.{ap, arith}
+use Rattle.tape.specs.Forest.{size, ◌⧺◌}
 use Rattle.tape.specs.Laid.{Room, RoomFor}
 use Rattle.meaning.specs.Label
 use Rattle.meaning.specs.Field.{Field, part, flag, sid, array, tail, push}

@@ -6,7 +6,6 @@ use mathlib.Core.List.{List, [], ◌∷◌}
 use Rattle.std.proofs.Math.Nat.{zero-add}
 use Rattle.std.proofs.Math.Decide.{dec_le}
 use Rattle.tape.specs.Forest.{Forest, node, none, size, ◌⧺◌}
-use Rattle.meaning.specs.Label
 use Rattle.meaning.specs.Label.{Label, number}
 use Rattle.meaning.specs.Shape.{Shape, shape_number, has_number}
 use Rattle.meaning.specs.Field.{Span, Element, numbers, array}

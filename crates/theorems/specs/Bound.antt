@@ -12,7 +12,6 @@ use Rattle.registry.specs.declared.Registry.TheVariants.{Srv6Sid, Unregistered}
 use Rattle.tape.specs.Both.{both}
 use Rattle.tape.specs.Forest.{Forest, none, size, ◌⧺◌}
 use Rattle.tape.specs.ForestLaws.{⧺-none, size-⧺}
-use Rattle.meaning.specs.Label
 use Rattle.meaning.specs.Label.{Label}
 use Rattle.meaning.specs.Cut.{Measure, pieces, total, each}
 use Rattle.meaning.specs.CutLaws.{pieces_ind, total_le}

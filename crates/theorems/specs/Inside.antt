@@ -11,7 +11,6 @@ use Rattle.registry.specs.Registry.{number_of}
 use Rattle.registry.specs.declared.Registry.TheVariants.{Srv6Sid, Unregistered}
 use Rattle.tape.specs.Forest.{Forest, none, leaf, node, size, ◌⧺◌, flat}
 use Rattle.tape.specs.declared.Record.{Record}
-use Rattle.meaning.specs.Label
 use Rattle.meaning.specs.Label.{Label}
 use Rattle.meaning.specs.Shape.{Shape, u8, ipv6, bytes}
 use Rattle.meaning.specs.Cut.{Measure, pieces, total, each}

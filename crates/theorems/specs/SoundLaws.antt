@@ -10,7 +10,6 @@ use Rattle.tape.specs.Forest.{Forest, none, leaf, node, ◌⧺◌, depth, Fits, 
 use Rattle.tape.specs.declared.Content.{Content}
 use Rattle.meaning.specs.Label.{Label, number}
 use Rattle.meaning.specs.Shape.{Shape, Container, shape_number, container_number, has_number}
-use Rattle.meaning.specs.Label
 use Rattle.meaning.specs.Shape
 use Rattle.meaning.specs.Cut.{each}
 use Rattle.meaning.specs.Tree.{content}

@@ -9,7 +9,6 @@ use Rattle.registry.specs.Registry.{number_of}
 use Rattle.registry.specs.declared.Registry.TheVariants.{Srv6Sid, Unregistered}
 use Rattle.calls.specs.Limits.{last_registry}
 use Rattle.tape.specs.Forest.{Forest, none}
-use Rattle.meaning.specs.Label
 use Rattle.meaning.specs.Label.{Label}
 use Rattle.meaning.specs.Shape.{Shape, u8, u32, ipv6, bytes, Container, array as arrayShape, object, has_number}
 use Rattle.meaning.specs.Cut.{total, each}

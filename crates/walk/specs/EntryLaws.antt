@@ -5,11 +5,10 @@ use native.Mathlib.Omega.{arith}
 use Rattle.std.proofs.Math.ListN.{length, length-drop}
 use Rattle.tape.specs.Record.{leaf_record, container_record}
 use Rattle.tape.specs.Tape.{store}
-use Rattle.tape.specs.Forest.{Forest, none, leaf, node, size, ◌⧺◌}
+use Rattle.tape.specs.Forest.{none, leaf, node, size, ◌⧺◌}
 use Rattle.tape.specs.ForestLaws.{size-⧺}
 use Rattle.tape.specs.Laid.{Laid, Room, RoomFor}
 use Rattle.tape.specs.LaidLaws.{laid_then, laid_container_of_two}
-use Rattle.tape.specs.declared.Content.{Content}
 use Rattle.meaning.specs.Tree.{content}
 use Rattle.meaning.specs.Table.{usual}
 use Rattle.meaning.specs.Value.{value_trees}

@@ -3,7 +3,6 @@ use native.Mathlib.Omega.{arith}
 use lib.ListN.{length-set}
 use Rattle.outcome.specs.CallLaws.{gives_as}
 use Rattle.calls.specs.CallsLaws.{clear_4, clear_0}
-use borrow.Author.Rules.{rules}
 use Rattle.calls.proofs.clear.Goals as goal
 
 pub returns-then-tape-lt4 : goal.returns-then-tape-lt4

@@ -5,7 +5,6 @@ use borrow.Author.Tests.{not-true, not-false}
 use Rattle.outcome.specs.CallLaws.{gives_as}
 use Rattle.tape.specs.HeaderLaws.{headed_in_order, used_inside}
 use Rattle.calls.specs.CallsLaws.{cut_4, cut_6, cut_7, cut_0}
-use borrow.Author.Rules.{rules}
 use Rattle.calls.proofs.cut_back.Goals as goal
 
 pub returns-then-not-in_order : goal.returns-then-not-in_order

@@ -1,9 +1,6 @@
 -- A loop over the records before the mark, the last first.
-use mathlib.Core.Path.{◌≡◌, refl, ◌∙◌}
-use Prim.Native.Nat.{◌≤◌}
+use mathlib.Core.Path.{refl, ◌∙◌}
 use native.Mathlib.Omega.{arith}
-use Rattle.tape.specs.Tape.{load}
-use Rattle.calls.specs.Calls.{end_by}
 use Rattle.calls.specs.CallsLaws.{end_next, end_over, end_none}
 use Rattle.calls.proofs.end_by.Goals as goal
 

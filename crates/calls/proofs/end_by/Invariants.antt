@@ -1,9 +1,7 @@
-use mathlib.Core.Path.{◌≡◌, refl, ◌∙◌}
+use mathlib.Core.Path.{◌≡◌}
 use Prim.Native.Nat.{◌≤◌}
-use native.Mathlib.Omega.{arith}
 use Rattle.tape.specs.Tape.{load}
 use Rattle.calls.specs.Calls.{end_by}
-use Rattle.calls.specs.CallsLaws.{end_next, end_over, end_none}
 use Rattle.calls.proofs.end_by.Given as goal
 
 abbrev pub invariant-loop-left : goal.invariant-loop-left

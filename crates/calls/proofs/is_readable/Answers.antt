@@ -2,7 +2,6 @@
 use mathlib.Core.Path.{refl}
 use borrow.Author.Tests.{le-leb, lt-leb, lt-ltb, le-ltb}
 use Rattle.calls.specs.Calls.{readable}
-use borrow.Author.Rules.{rules}
 use Rattle.calls.proofs.is_readable.Goals as goal
 
 pub returns-then-label-gt-LAST_LABEL : goal.returns-then-label-gt-LAST_LABEL

@@ -1,5 +1,4 @@
 -- A refusal, and six zeros.
-use borrow.Author.Rules.{rules}
 use Rattle.calls.proofs.no_record.Goals as goal
 
 pub returns : goal.returns

@@ -4,7 +4,6 @@ use native.Mathlib.Omega.{arith}
 use borrow.Author.Tests.{not-true, not-false}
 use Rattle.tape.specs.HeaderLaws.{headed_in_order, used_inside}
 use Rattle.calls.specs.CallsLaws.{read_4, read_6, read_8, read_0}
-use borrow.Author.Rules.{rules}
 use Rattle.calls.proofs.read.Goals as goal
 
 pub returns-then-not-in_order : goal.returns-then-not-in_order

@@ -1,13 +1,10 @@
 -- Each turn counts an entry.
-use Prim.Native.Nat.{ℕ, ◌+◌, ◌*◌, ◌-◌, ◌≤◌}
+use Prim.Native.Nat.{ℕ, ◌+◌}
 use native.Mathlib.Omega.{arith}
-use lib.ListN.{length, get_or}
-use Rattle.registry.specs.Registry.{number_of}
-use Rattle.meaning.specs.Frame.{entry_length}
+use lib.ListN.{get_or}
 use Rattle.meaning.specs.FrameLaws.{entry_fits}
-use Rattle.meaning.specs.Table.{usual}
-use Rattle.meaning.specs.Area.{entry_trees, inner_walk, walked}
-use Rattle.count.specs.Counting.{Counting, counting_start, counting_step}
+use Rattle.meaning.specs.Area.{walked}
+use Rattle.count.specs.Counting.{counting_start, counting_step}
 use Rattle.count.specs.AreaCount.{length_value, entry_counts, entry_at, entry_past, walk_none, walk_counted}
 use Rattle.count.proofs.count_area.Goals as goal
 

@@ -2,7 +2,6 @@
 use mathlib.Core.Path.{◌∙◌}
 use Rattle.meaning.specs.Area.{pushed}
 use Rattle.count.specs.AreaCount.{push_counted}
-use borrow.Author.Rules.{rules}
 use Rattle.count.proofs.pushed_records.Goals as goal
 
 pub returns : goal.returns

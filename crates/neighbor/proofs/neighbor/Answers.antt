@@ -8,7 +8,6 @@ use Rattle.meaning.specs.Value.{field_end, field_trees, fields_trees, taken}
 use Rattle.readings.specs.Reading.{reading_of}
 use Rattle.readings.specs.ReadingLaws.{asks_row, asks_given, reads_as, of_type, of_unknown, row_given}
 use Rattle.readings.specs.RowsLaws.{bandwidth_types, past_36}
-use borrow.Author.Rules.{rules}
 use Rattle.neighbor.proofs.neighbor.Goals as goal
 
 pub one_number32-requires : goal.one_number32-requires

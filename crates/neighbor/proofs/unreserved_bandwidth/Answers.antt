@@ -10,7 +10,6 @@ use Rattle.meaning.specs.TableLaws.{least_in, fields_in}
 use Rattle.readings.specs.ReadingLaws.{reads_as, row_short, row_long, row_room}
 use Rattle.readings.specs.RowsLaws.{numbers_row}
 use Rattle.readings.specs.declared.Taken.TheVariants.{Octets}
-use borrow.Author.Rules.{rules}
 use Rattle.neighbor.proofs.unreserved_bandwidth.Goals as goal
 
 pub returns-then-value-lt32 : goal.returns-then-value-lt32

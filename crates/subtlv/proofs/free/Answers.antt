@@ -1,7 +1,6 @@
 -- The room, less what is used.
 use native.Mathlib.Omega.{arith}
 use Rattle.tape.specs.HeaderLaws.{headed_in_order}
-use borrow.Author.Rules.{rules}
 use Rattle.subtlv.proofs.free.Goals as goal
 
 pub used-at-requires : goal.used-at-requires

@@ -1,6 +1,5 @@
 -- The checks, the room, and the records.
 use mathlib.Core.Path.{refl, sym, ap, ◌∙◌}
-use mathlib.Core.Logic.{⊎_elim}
 use Prim.Native.Nat.{ℕ, ◌-◌, ◌≤◌}
 use native.Mathlib.Omega.{arith}
 use lib.ListN.{length}
@@ -14,7 +13,6 @@ use Rattle.meaning.specs.Table.{usual}
 use Rattle.meaning.specs.Area.{pushed}
 use Rattle.meaning.specs.AreaCallLaws.{call_unknown, call_known}
 use Rattle.subtlv.specs.CallLaws.{most_pushed, in_order, call_room, call_short, call_made}
-use borrow.Author.Rules.{rules}
 use Rattle.subtlv.proofs.push.Goals.{then-room-area+else-room-needed, else-room-area}
 use Rattle.subtlv.proofs.push.Goals as goal
 

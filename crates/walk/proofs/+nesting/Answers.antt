@@ -1,19 +1,11 @@
-use mathlib.Core.List.{List, [], ◌∷◌}
-use Prim.Native.Nat.{ℕ, ◌≤◌, ◌<◌, ◌*◌, ◌+◌}
+use Prim.Native.Nat.{ℕ, ◌≤◌, ◌<◌, ◌+◌}
 use native.Mathlib.Omega.{arith}
-use types.Run.{OneOf, miss}
-use denote.Enum.Declared.{tag_of}
 use Rattle.registry.specs.Registry.{number_of}
 use Rattle.registry.specs.declared.Registry.{Registry}
 use Rattle.registry.specs.declared.Registry.TheVariants.{Neighbor, Prefix, RouterCapability, Binding, Srv6Sid, Unregistered}
-use Rattle.registry.specs.contracts.Registry.{the_type}
-use borrow.Author.Rules.{rules}
 use lib.ListN.{length, get_or, length-drop}
 use mathlib.Core.Path.{refl, ◌≡◌}
-use mathlib.Core.Logic.{⊎_elim}
-use Rattle.meaning.specs.Frame.{entry_length}
-use Rattle.fields.specs.Cutting.{CutOff, cut_off_start, cut_off_inside}
-use Rattle.walk.specs.Entry.{entry_in}
+use Rattle.fields.specs.Cutting.{cut_off_start, cut_off_inside}
 use Rattle.walk.specs.WalkLaws.{first_inside, turn_room, turn_made, area_past, walk_made, push_room, remainder_room, push_made, walk_none}
 use Rattle.meaning.specs.PlaceLaws.{part_rest}
 use Rattle.walk.specs.EntryLaws.{entry_octets, entry_room, rest_room, head_places, leaf_room, leaf_made}

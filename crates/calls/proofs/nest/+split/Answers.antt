@@ -1,12 +1,9 @@
-use mathlib.Core.Path.{◌≡◌, refl, sym, ◌∙◌}
+use mathlib.Core.Path.{refl, sym, ◌∙◌}
 use native.Mathlib.Omega.{arith}
-use borrow.Author.Rules.{rules}
 use borrow.Author.Tests.{not-true, not-false}
 use lib.ListN.{length}
 use Rattle.tape.specs.LayoutLaws.{room_low}
-use Rattle.calls.specs.Nest.{trees}
 use Rattle.calls.specs.NestLaws.{Ends, container_ends, trees_none, too_deep, bad_container, bad_children, past_container, bad_leaf, past_leaf}
-use Prim.Native.Nat.{ℕ, ◌-◌, ◌<◌}
 use Rattle.calls.proofs.nest.+split.Goals as goal
 
 pub loop-at-init : goal.loop-at-init

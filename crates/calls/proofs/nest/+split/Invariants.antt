@@ -1,12 +1,6 @@
-use mathlib.Core.Path.{◌≡◌, refl, sym, ◌∙◌}
-use native.Mathlib.Omega.{arith}
-use borrow.Author.Rules.{rules}
-use borrow.Author.Tests.{not-true, not-false}
-use lib.ListN.{length}
-use Rattle.tape.specs.LayoutLaws.{room_low}
+use mathlib.Core.Path.{◌≡◌}
 use Rattle.calls.specs.Nest.{trees}
-use Rattle.calls.specs.NestLaws.{Ends, container_ends, trees_none, too_deep, bad_container, bad_children, past_container, bad_leaf, past_leaf}
-use Prim.Native.Nat.{ℕ, ◌-◌, ◌<◌}
+use Prim.Native.Nat.{◌-◌}
 use Rattle.calls.proofs.nest.+split.Given as goal
 
 abbrev pub decreases-split : goal.decreases-split

@@ -1,7 +1,6 @@
 -- An array, or an object, or neither.
 use mathlib.Core.Path.{refl}
 use borrow.Author.Tests.{eq-eqb, ne_eqb}
-use borrow.Author.Rules.{rules}
 use Rattle.calls.proofs.nest.holds_others.Goals as goal
 
 pub returns-then-shape : goal.returns-then-shape

@@ -1,7 +1,6 @@
 -- One return for each test.
 use mathlib.Core.Path.{refl}
 use borrow.Author.Tests.{le-leb, lt-leb, eq-eqb, ne_eqb}
-use borrow.Author.Rules.{rules}
 use Rattle.calls.proofs.nest.is_container.Goals as goal
 
 pub returns-then-r-at : goal.returns-then-r-at

@@ -4,7 +4,6 @@ use native.Mathlib.Omega.{arith}
 use borrow.Author.Tests.{not-true, not-false}
 use Rattle.tape.specs.HeaderLaws.{headed_in_order, used_inside}
 use Rattle.calls.specs.Nest.{nest_test}
-use borrow.Author.Rules.{rules}
 use Rattle.calls.proofs.nest.nest_test.Goals as goal
 
 pub returns-then-not-in_order : goal.returns-then-not-in_order

@@ -5,7 +5,6 @@ use lib.ListN.{length, drop, length-take, length-drop}
 use native.Mathlib.Omega.{arith}
 use Rattle.meaning.specs.Field.{push}
 use Rattle.count.specs.LastCount.{heads_short, heads_long, push_last}
-use borrow.Author.Rules.{rules}
 use Rattle.count.proofs.field.flags_and_push.Goals as goal
 
 pub returns-then-n-lt2 : goal.returns-then-n-lt2

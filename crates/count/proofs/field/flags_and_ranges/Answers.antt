@@ -5,7 +5,6 @@ use lib.ListN.{length, drop, length-take, length-drop}
 use Rattle.meaning.specs.Label
 use Rattle.meaning.specs.Field.{array, from, ranges}
 use Rattle.count.specs.LastCount.{heads_short, heads_long, ranges_last}
-use borrow.Author.Rules.{rules}
 use Rattle.count.proofs.field.flags_and_ranges.Goals as goal
 
 pub returns-then-n-lt1 : goal.returns-then-n-lt1

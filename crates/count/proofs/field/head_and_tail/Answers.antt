@@ -1,7 +1,6 @@
 -- Too short, or the tail.
 use native.Mathlib.Omega.{arith}
 use Rattle.count.specs.LastCount.{heads_short, heads_long}
-use borrow.Author.Rules.{rules}
 use Rattle.count.proofs.field.head_and_tail.Goals as goal
 
 pub returns-then-value-at : goal.returns-then-value-at

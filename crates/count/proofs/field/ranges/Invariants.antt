@@ -1,17 +1,11 @@
-use mathlib.Core.Path.{◌≡◌, refl, sym}
-use native.Mathlib.Omega.{arith}
+use mathlib.Core.Path.{◌≡◌}
 use Prim.Native.Nat.{ℕ, ◌+◌, ◌-◌, ◌≤◌}
 use lib.ListN
 use lib.ListN.{take, drop, length-drop}
-use lib.Seq.{length-take-le}
-use borrow.Author.Tests.{le-leb, lt-leb}
 use Rattle.meaning.specs.Field.{ranges}
 use Rattle.meaning.specs.Array.{element_trees}
 use Rattle.meaning.specs.Frame.{range_length}
-use Rattle.meaning.specs.FrameLaws.{range_fits, range_eight}
-use Rattle.fields.specs.ElementLaws.{range_size}
-use Rattle.count.specs.Counting.{Counting, counting_start, counting_step}
-use Rattle.count.specs.LastCount.{ranges_counted}
+use Rattle.count.specs.Counting.{Counting}
 use Rattle.count.proofs.field.ranges.Given as goal
 
 abbrev pub invariant-loop-length : goal.invariant-loop-length

@@ -3,7 +3,6 @@ use Prim.Native.Nat.{◌+◌, ◌-◌}
 use native.Mathlib.Omega.{arith}
 use lib.ListN.{get_or, drop, length-take}
 use Rattle.count.specs.TailCount.{bare_count, overrun_count, inner_count}
-use borrow.Author.Rules.{rules}
 use Rattle.count.proofs.field.tail.Goals as goal
 
 pub returns-then-n-length_at : goal.returns-then-n-length_at

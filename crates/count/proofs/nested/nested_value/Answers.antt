@@ -6,7 +6,6 @@ use Rattle.meaning.specs.Table.{table, fields_of, usual}
 use Rattle.meaning.specs.TableLaws.{least_in, fields_in}
 use Rattle.count.specs.RowCount.{row_counts}
 use Rattle.count.specs.Unread.{unread_counts}
-use borrow.Author.Rules.{rules}
 use Rattle.count.proofs.nested.nested_value.Goals as goal
 
 pub returns-then-kind-eq1 : goal.returns-then-kind-eq1

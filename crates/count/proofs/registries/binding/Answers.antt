@@ -6,7 +6,6 @@ use Rattle.meaning.specs.Table.{table, fields_of, usual}
 use Rattle.meaning.specs.TableLaws.{least_in, fields_in}
 use Rattle.count.specs.RowCount.{row_counts}
 use Rattle.count.specs.Unread.{unread_counts}
-use borrow.Author.Rules.{rules}
 use Rattle.count.proofs.registries.binding.Goals as goal
 
 pub returns-in-1 : goal.returns-in-1

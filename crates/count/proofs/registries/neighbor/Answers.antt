@@ -7,7 +7,6 @@ use Rattle.meaning.specs.TableLaws.{least_in, fields_in}
 use Rattle.count.specs.RowCount.{row_counts, heads_counts}
 use Rattle.count.specs.ArrayCount.{bandwidth_counts}
 use Rattle.count.specs.Unread.{unread_counts}
-use borrow.Author.Rules.{rules}
 use Rattle.count.proofs.registries.neighbor.Goals as goal
 
 pub returns-in-3 : goal.returns-in-3

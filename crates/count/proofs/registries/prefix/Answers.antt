@@ -7,7 +7,6 @@ use Rattle.meaning.specs.TableLaws.{least_in, fields_in}
 use Rattle.count.specs.RowCount.{row_counts, heads_counts}
 use Rattle.count.specs.ArrayCount.{tags_counts, long_tags_counts}
 use Rattle.count.specs.Unread.{unread_counts}
-use borrow.Author.Rules.{rules}
 use Rattle.count.proofs.registries.prefix.Goals as goal
 
 pub returns-in-1 : goal.returns-in-1

@@ -2,13 +2,11 @@
 use mathlib.Core.Path.{refl}
 use mathlib.Core.List.{[], ◌∷◌}
 use native.Mathlib.Omega.{arith}
-use Rattle.meaning.specs.Label
 use Rattle.meaning.specs.Table.{table, fields_of, usual}
 use Rattle.meaning.specs.TableLaws.{least_in, fields_in}
 use Rattle.count.specs.RowCount.{row_counts, heads_counts}
 use Rattle.count.specs.ArrayCount.{algorithms_counts, msds_counts}
 use Rattle.count.specs.Unread.{unread_counts}
-use borrow.Author.Rules.{rules}
 use Rattle.count.proofs.registries.router_capability.Goals as goal
 
 pub returns-in-2 : goal.returns-in-2

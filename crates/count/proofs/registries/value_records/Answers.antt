@@ -1,7 +1,6 @@
 -- By the registry.
 use Rattle.meaning.specs.Table.{usual}
 use Rattle.meaning.specs.Area.{inner_walk}
-use borrow.Author.Rules.{rules}
 use Rattle.count.proofs.registries.value_records.Goals as goal
 
 pub returns-in-Neighbor : goal.returns-in-Neighbor

@@ -1,7 +1,6 @@
 -- All covered, or octets left.
 use borrow.Author.Tests.{le-leb, lt-leb}
 use native.Mathlib.Omega.{arith}
-use borrow.Author.Rules.{rules}
 use Rattle.count.proofs.row.with_rest.Goals as goal
 
 pub returns-then-n-walk : goal.returns-then-n-walk

@@ -6,7 +6,6 @@ use Rattle.meaning.specs.TableLaws.{least_in, fields_in}
 use Rattle.meaning.specs.Value.{field_end, field_trees, fields_trees, taken}
 use Rattle.readings.specs.Reading.{reading_of}
 use Rattle.readings.specs.ReadingLaws.{asks_row, asks_given, of_type, of_unknown, row_given}
-use borrow.Author.Rules.{rules}
 use Rattle.decoders.proofs.binding.binding.Goals as goal
 
 pub sid_label-requires : goal.sid_label-requires

@@ -1,6 +1,5 @@
 -- Two numbers, one after the other.
 use Rattle.tape.specs.LaidLaws.{laid_then}
-use borrow.Author.Rules.{rules}
 use Rattle.decoders.proofs.prefix.end_head.Goals as goal
 
 pub returns : goal.returns

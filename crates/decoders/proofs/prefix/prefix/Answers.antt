@@ -10,7 +10,6 @@ use Rattle.meaning.specs.Value.{field_end, field_trees, fields_trees, taken}
 use Rattle.readings.specs.Reading.{Reading, given, reading_of}
 use Rattle.readings.specs.ReadingLaws.{asks_row, asks_given, reads_as, of_type, of_unknown, row_given}
 use Rattle.readings.specs.RowsLaws.{numbers_row}
-use borrow.Author.Rules.{rules}
 use Rattle.decoders.proofs.prefix.prefix.Goals as goal
 
 pub tags-requires : goal.tags-requires

@@ -8,7 +8,6 @@ use Rattle.meaning.specs.TableLaws.{least_in, fields_in}
 use Rattle.readings.specs.ReadingLaws.{reads_as, row_long, row_room}
 use Rattle.readings.specs.RowsLaws.{array_row}
 use Rattle.readings.specs.declared.Taken.TheVariants.{Octets}
-use borrow.Author.Rules.{rules}
 use Rattle.decoders.proofs.router_capability.node_msd.Goals as goal
 
 pub msds-shown-requires : goal.msds-shown-requires

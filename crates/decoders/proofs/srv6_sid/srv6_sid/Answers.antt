@@ -1,7 +1,6 @@
 -- The one type, and all others.
 use Rattle.meaning.specs.Table.{table}
 use Rattle.readings.specs.ReadingLaws.{asks_row, of_type, of_unknown}
-use borrow.Author.Rules.{rules}
 use Rattle.decoders.proofs.srv6_sid.srv6_sid.Goals as goal
 
 pub sid_structure-requires : goal.sid_structure-requires

@@ -1,6 +1,5 @@
 -- Two leaves, and then the object in front of them.
 use Rattle.fields.specs.ElementLaws.{msd_made}
-use borrow.Author.Rules.{rules}
 use Rattle.fields.proofs.array.msd.Goals as goal
 
 pub returns : goal.returns

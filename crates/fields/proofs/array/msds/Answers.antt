@@ -1,17 +1,14 @@
 -- Each turn lays an MSD.
 use native.Mathlib.Omega.{arith}
-use Prim.Native.Nat.{◌+◌, ◌-◌}
 use native.Mathlib.Nat.{add-sub_cancel_left}
-use lib.ListN.{length, drop, length-drop}
+use lib.ListN.{drop, length-drop}
 use lib.Seq.{length-take-le}
 use mathlib.Core.Path.{refl}
 use Rattle.tape.specs.Forest.{◌⧺◌}
-use Rattle.meaning.specs.Field.{msds}
 use Rattle.meaning.specs.Array.{element_trees}
-use Rattle.meaning.specs.Frame.{whole}
 use Rattle.meaning.specs.FrameLaws.{whole_fits}
 use Rattle.meaning.specs.PlaceLaws.{whole_here, whole_over}
-use Rattle.fields.specs.Cutting.{Cutting, cutting_start, cutting_step, cutting_room, cutting_past, cutting_end}
+use Rattle.fields.specs.Cutting.{cutting_start, cutting_step, cutting_room, cutting_past, cutting_end}
 use Rattle.fields.proofs.array.msds.Goals as goal
 
 pub loop-at-init : goal.loop-at-init

@@ -1,13 +1,8 @@
-use native.Mathlib.Omega.{arith}
 use Prim.Native.Nat.{◌+◌, ◌-◌}
 use lib.ListN.{length}
-use mathlib.Core.Path.{refl}
-use Rattle.octets.specs.BigEndianLaws.{big_endian_piece, width_some}
 use Rattle.meaning.specs.Frame.{whole}
-use Rattle.meaning.specs.FrameLaws.{whole_fits}
-use Rattle.meaning.specs.PlaceLaws.{whole_here, whole_over}
 use Rattle.fields.specs.Shows.{number_trees}
-use Rattle.fields.specs.Cutting.{Cutting, cutting_start, cutting_step, cutting_room, cutting_past, cutting_end}
+use Rattle.fields.specs.Cutting.{Cutting}
 use Rattle.fields.proofs.array.numbers.Given as goal
 
 abbrev pub invariant-loop-at : goal.invariant-loop-at

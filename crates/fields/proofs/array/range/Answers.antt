@@ -1,6 +1,5 @@
 -- Two leaves, and then the object in front of them.
 use Rattle.fields.specs.ElementLaws.{range_made}
-use borrow.Author.Rules.{rules}
 use Rattle.fields.proofs.array.range.Goals as goal
 
 pub returns : goal.returns

@@ -2,9 +2,8 @@
 use native.Mathlib.Omega.{arith}
 use Prim.Native.Nat.{◌+◌}
 use mathlib.Core.Path.{sym}
-use mathlib.Core.Logic.{inl, inr, ⊎_elim}
+use mathlib.Core.Logic.{inl, inr}
 use Rattle.meaning.specs.PlaceLaws.{range_few, range_other, range_neither, range_here, range_over}
-use borrow.Author.Rules.{rules}
 use Rattle.fields.proofs.array.range_length.Goals.{then-width-ne3+else-width-ne4, else-width-ne3}
 use Rattle.fields.proofs.array.range_length.Goals as goal
 

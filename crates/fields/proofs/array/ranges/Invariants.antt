@@ -1,16 +1,11 @@
-use native.Mathlib.Omega.{arith}
 use Prim.Native.Nat.{◌+◌, ◌-◌, ◌≤◌}
-use native.Mathlib.Nat.{add-sub_cancel_left}
 use lib.ListN
 use lib.ListN.{take, drop, length-drop}
-use lib.Seq.{length-take-le}
-use mathlib.Core.Path.{◌≡◌, refl, sym, ◌∙◌}
+use mathlib.Core.Path.{◌≡◌}
 use Rattle.meaning.specs.Field.{ranges}
 use Rattle.meaning.specs.Array.{element_trees}
 use Rattle.meaning.specs.Frame.{range_length}
-use Rattle.meaning.specs.FrameLaws.{range_fits, range_eight}
-use Rattle.fields.specs.ElementLaws.{range_size}
-use Rattle.fields.specs.Cutting.{Cutting, cutting_start, cutting_step, cutting_room, cutting_past, cutting_end}
+use Rattle.fields.specs.Cutting.{Cutting}
 use Rattle.fields.proofs.array.ranges.Given as goal
 
 abbrev pub invariant-loop-length : goal.invariant-loop-length

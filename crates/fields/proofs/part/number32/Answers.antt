@@ -1,5 +1,4 @@
 -- A leaf over the number that is read.
-use borrow.Author.Rules.{rules}
 use Rattle.fields.proofs.part.number32.Goals as goal
 
 pub returns : goal.returns

@@ -3,7 +3,6 @@ use native.Mathlib.Omega.{arith}
 use mathlib.Core.Path.{ap, ◌∙◌}
 use Prim.Native.Nat.{ℕ, ◌%◌}
 use Rattle.fields.specs.ShowsLaws.{four, three}
-use borrow.Author.Rules.{rules}
 use Rattle.fields.proofs.sid.read_sid.Goals as goal
 
 pub returns-then-at-value : goal.returns-then-at-value

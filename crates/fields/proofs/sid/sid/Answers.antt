@@ -3,7 +3,6 @@ use native.Mathlib.Omega.{arith}
 use mathlib.Core.Path.{ap}
 use Prim.Native.Nat.{ℕ, ◌+◌}
 use Rattle.fields.specs.ShowsLaws.{sid_fits}
-use borrow.Author.Rules.{rules}
 use Rattle.fields.proofs.sid.sid.Goals as goal
 
 pub part-next-requires : goal.part-next-requires

@@ -1,13 +1,11 @@
 -- Type by type, and all that are not read.
-use mathlib.Core.Path.{refl, sym, ◌∙◌}
+use mathlib.Core.Path.{refl}
 use native.Mathlib.Omega.{arith}
-use borrow.Author.Tests.{eqb-true}
 use Rattle.meaning.specs.Label
 use Rattle.meaning.specs.Shape.{u32, ipv4, ipv6}
 use Rattle.meaning.specs.Table.{table, fields_of, usual}
 use Rattle.meaning.specs.TableLaws.{least_in, fields_in}
 use Rattle.neighbor.specs.AloneLaws.{part_alone, unknown_alone, octets_told, never_alone}
-use borrow.Author.Rules.{rules}
 use Rattle.neighbor.proofs.alone.alone.Goals as goal
 
 pub returns-in-3 : goal.returns-in-3

@@ -2,7 +2,6 @@
 use mathlib.Core.Path.{refl}
 use native.Mathlib.Omega.{arith}
 use Rattle.neighbor.specs.AloneLaws.{never_told}
-use borrow.Author.Rules.{rules}
 use Rattle.neighbor.proofs.alone.number32_alone.Goals as goal
 
 pub returns-then-value-ne4 : goal.returns-then-value-ne4

@@ -1,9 +1,8 @@
 -- The loop: after i turns the first i octets are those of `from`.
-use mathlib.Core.Path.{◌≡◌, refl, ◌∙◌}
-use Prim.Native.Nat.{◌-◌, ◌≤◌}
+use mathlib.Core.Path.{refl, ◌∙◌}
 use native.Mathlib.Omega.{arith}
-use lib.ListN.{length, length-set}
-use lib.Seq.{paste, paste-zero}
+use lib.ListN.{length-set}
+use lib.Seq.{paste-zero}
 use Rattle.octets.specs.CopyLaws.{copy_more, copied}
 use Rattle.octets.proofs.copy.copy_to_front.Goals as goal
 

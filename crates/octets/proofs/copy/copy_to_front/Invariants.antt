@@ -1,9 +1,7 @@
-use mathlib.Core.Path.{◌≡◌, refl, ◌∙◌}
+use mathlib.Core.Path.{◌≡◌}
 use Prim.Native.Nat.{◌-◌, ◌≤◌}
-use native.Mathlib.Omega.{arith}
-use lib.ListN.{length, length-set}
-use lib.Seq.{paste, paste-zero}
-use Rattle.octets.specs.CopyLaws.{copy_more, copied}
+use lib.ListN.{length}
+use lib.Seq.{paste}
 use Rattle.octets.proofs.copy.copy_to_front.Given as goal
 
 abbrev pub invariant-loop-i : goal.invariant-loop-i

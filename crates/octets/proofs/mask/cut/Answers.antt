@@ -1,6 +1,5 @@
 -- The bits after the first are shifted out, and zeros in.
 use native.Mathlib.Omega.{arith}
-use borrow.Author.Rules.{rules}
 use Rattle.octets.specs.MaskLaws.{shifted_octet, kept_shifted}
 use Rattle.octets.proofs.mask.cut.Goals as goal
 

@@ -1,6 +1,5 @@
 -- Each part is that of the law `masked-parts`: whole octets kept, one octet cut, the rest zero.
 use native.Mathlib.Omega.{arith}
-use borrow.Author.Rules.{rules}
 use mathlib.Core.Path.{sym}
 use lib.ListN.{length-set}
 use Rattle.octets.specs.MaskLaws.{masked_past, mask_made, masks_length}

@@ -1,9 +1,8 @@
 -- The loop: the first i octets are 0.
-use mathlib.Core.Path.{◌≡◌, refl, ◌∙◌}
-use Prim.Native.Nat.{◌-◌, ◌≤◌}
+use mathlib.Core.Path.{refl, ◌∙◌}
 use native.Mathlib.Omega.{arith}
 use lib.ListN.{length, replicate, length-set}
-use lib.Seq.{paste, paste-zero}
+use lib.Seq.{paste-zero}
 use Rattle.octets.specs.CopyLaws.{zero_more, zeroed}
 use Rattle.octets.proofs.mask.zero.Goals as goal
 

@@ -1,9 +1,7 @@
-use mathlib.Core.Path.{◌≡◌, refl, ◌∙◌}
+use mathlib.Core.Path.{◌≡◌}
 use Prim.Native.Nat.{◌-◌, ◌≤◌}
-use native.Mathlib.Omega.{arith}
-use lib.ListN.{length, replicate, length-set}
-use lib.Seq.{paste, paste-zero}
-use Rattle.octets.specs.CopyLaws.{zero_more, zeroed}
+use lib.ListN.{length, replicate}
+use lib.Seq.{paste}
 use Rattle.octets.proofs.mask.zero.Given as goal
 
 abbrev pub invariant-loop-i : goal.invariant-loop-i

@@ -1,6 +1,5 @@
 -- An octet is a number of width 1.
 use mathlib.Core.Path.{sym}
-use borrow.Author.Rules.{rules}
 use Rattle.octets.specs.BigEndianLaws.{big_endian_one}
 use Rattle.octets.proofs.read.octet.Goals as goal
 

@@ -1,6 +1,5 @@
 -- The width decides which read it is.
 use native.Mathlib.Omega.{arith}
-use borrow.Author.Rules.{rules}
 use Rattle.octets.specs.BigEndianLaws.{width_eight}
 use Rattle.octets.proofs.read.read_be.Goals as goal
 

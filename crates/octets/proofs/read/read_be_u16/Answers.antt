@@ -1,5 +1,4 @@
 -- Widths 1 and 1, joined.
-use borrow.Author.Rules.{rules}
 use Rattle.octets.specs.BigEndianLaws.{joined}
 use Rattle.octets.proofs.read.read_be_u16.Goals as goal
 

@@ -1,5 +1,4 @@
 -- Widths 2 and 2, joined.
-use borrow.Author.Rules.{rules}
 use Rattle.octets.specs.BigEndianLaws.{joined}
 use Rattle.octets.proofs.read.read_be_u32.Goals as goal
 

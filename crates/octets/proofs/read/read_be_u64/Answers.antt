@@ -1,5 +1,4 @@
 -- Widths 4 and 4, joined.
-use borrow.Author.Rules.{rules}
 use Rattle.octets.specs.BigEndianLaws.{joined}
 use Rattle.octets.proofs.read.read_be_u64.Goals as goal
 

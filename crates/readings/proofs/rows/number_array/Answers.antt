@@ -3,7 +3,6 @@ use mathlib.Core.Path.{ap}
 use borrow.Author.Tests.{le-leb, lt-leb}
 use Rattle.readings.specs.ReadingLaws.{reads_nothing}
 use Rattle.readings.specs.declared.Taken.TheVariants.{Octets}
-use borrow.Author.Rules.{rules}
 use Rattle.readings.proofs.rows.number_array.Goals as goal
 
 pub returns-then-value-least : goal.returns-then-value-least

@@ -1,5 +1,4 @@
 -- Each registry's own lookup.
-use borrow.Author.Rules.{rules}
 use Rattle.registry.proofs.Registry.name.Goals as goal
 
 pub returns-in-Neighbor : goal.returns-in-Neighbor

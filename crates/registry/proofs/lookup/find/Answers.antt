@@ -1,12 +1,8 @@
 -- The loop: from `at` on stand names that give the type what all give it, whatever table the octets are packed from.
-use mathlib.Core.Path.{◌≡◌, sym}
-use mathlib.Core.List.{List}
-use Prim.Native.Nat.{◌-◌}
+use mathlib.Core.Path.{sym}
 use native.Mathlib.Omega.{arith}
-use lib.ListN.{length}
-use Rattle.registry.specs.Names.{Name, names_of, name_of}
-use Rattle.registry.specs.Packed.{packed}
-use Rattle.registry.specs.PackedLaws.{Left, Entry, entry, left_all, left_none}
+use Rattle.registry.specs.Names.{name_of}
+use Rattle.registry.specs.PackedLaws.{entry, left_all, left_none}
 use Rattle.registry.proofs.lookup.find.Goals as goal
 
 pub loop-at-init : goal.loop-at-init

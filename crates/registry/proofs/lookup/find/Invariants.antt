@@ -1,11 +1,10 @@
-use mathlib.Core.Path.{◌≡◌, sym}
+use mathlib.Core.Path.{◌≡◌}
 use mathlib.Core.List.{List}
 use Prim.Native.Nat.{◌-◌}
-use native.Mathlib.Omega.{arith}
 use lib.ListN.{length}
-use Rattle.registry.specs.Names.{Name, names_of, name_of}
+use Rattle.registry.specs.Names.{Name}
 use Rattle.registry.specs.Packed.{packed}
-use Rattle.registry.specs.PackedLaws.{Left, Entry, entry, left_all, left_none}
+use Rattle.registry.specs.PackedLaws.{Left}
 use Rattle.registry.proofs.lookup.find.Given as goal
 
 abbrev pub invariant-loop-at : goal.invariant-loop-at

@@ -1,7 +1,6 @@
 use mathlib.Core.Path.{refl}
 use borrow.Author.Tests.{le-leb, lt-leb, eq-eqb, ne_eqb}
 use Rattle.tape.specs.Tape.{headed}
-use borrow.Author.Rules.{rules}
 use Rattle.store.proofs.header.in_order.Goals as goal
 
 pub returns-then-n-lt4 : goal.returns-then-n-lt4

@@ -1,7 +1,6 @@
 -- The room of either layout.
 use native.Mathlib.Omega.{arith}
 use Rattle.tape.specs.Layout.{room_of}
-use borrow.Author.Rules.{rules}
 use Rattle.store.proofs.header.room_of.Goals as goal
 
 pub returns-then-most-le4294967295 : goal.returns-then-most-le4294967295

@@ -2,7 +2,6 @@
 use native.Mathlib.Omega.{arith}
 use lib.ListN.{length}
 use Rattle.tape.specs.NearLaws.{kept_container}
-use borrow.Author.Rules.{rules}
 use Rattle.store.proofs.lay.container.Goals as goal
 
 pub put-requires : goal.put-requires

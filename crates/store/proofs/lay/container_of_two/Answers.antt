@@ -4,7 +4,6 @@ use Rattle.tape.specs.NearLaws.{kept_leaf, kept_container}
 use mathlib.Core.Path.{◌∙◌}
 use native.Mathlib.Omega.{arith}
 use Rattle.tape.specs.TapeLaws.{put_three}
-use borrow.Author.Rules.{rules}
 use Rattle.store.proofs.lay.container_of_two.Goals as goal
 
 pub put-requires : goal.put-requires

@@ -2,7 +2,6 @@
 use mathlib.Core.Path.{refl}
 use native.Mathlib.Omega.{arith}
 use Rattle.tape.specs.Layout.{word_of}
-use borrow.Author.Rules.{rules}
 use Rattle.store.proofs.words.first_word.Goals as goal
 
 pub returns-then-slim : goal.returns-then-slim

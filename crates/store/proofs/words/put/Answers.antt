@@ -5,7 +5,6 @@ use lib.ListN.{length}
 use Rattle.tape.specs.LayoutLaws.{room_low, room_one}
 use Rattle.tape.specs.TapeLaws.{put_inside}
 use Rattle.tape.specs.LaidLaws.{put_room}
-use borrow.Author.Rules.{rules}
 use Rattle.store.proofs.words.put.Goals as goal
 
 pub first_word-b-requires : goal.first_word-b-requires

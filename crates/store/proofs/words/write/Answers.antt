@@ -1,5 +1,4 @@
 -- One of the two layouts.
-use borrow.Author.Rules.{rules}
 use Rattle.store.proofs.words.write.Goals as goal
 
 pub write_four-requires : goal.write_four-requires

@@ -1,7 +1,6 @@
 use native.Mathlib.Omega.{arith}
 use lib.ListN.{length-set}
 use Rattle.tape.specs.TapeLaws.{four_set}
-use borrow.Author.Rules.{rules}
 use Rattle.store.proofs.words.write_four.Goals as goal
 
 pub bounds-tape-b-2 : goal.bounds-tape-b-2

@@ -1,7 +1,6 @@
 -- What follows, and the object with its type and length in front.
 use native.Mathlib.Omega.{arith}
 use Rattle.walk.specs.EntryLaws.{entry_made}
-use borrow.Author.Rules.{rules}
 use Rattle.walk.proofs.entry.complete.Goals as goal
 
 pub length_leaf-requires : goal.length_leaf-requires

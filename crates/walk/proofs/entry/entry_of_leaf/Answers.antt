@@ -1,6 +1,5 @@
 -- Four records.
 use native.Mathlib.Omega.{arith}
-use borrow.Author.Rules.{rules}
 use Rattle.walk.proofs.entry.entry_of_leaf.Goals as goal
 
 pub container_of_leaves-requires : goal.container_of_leaves-requires

@@ -1,7 +1,6 @@
 -- The decoder of registry 3, and the entry around it.
 use Rattle.meaning.specs.PlaceLaws.{part_rest}
 use Rattle.walk.specs.EntryLaws.{entry_octets, entry_room, rest_room, head_places}
-use borrow.Author.Rules.{rules}
 use Rattle.walk.proofs.plain.binding_entry.Goals as goal
 
 pub binding-decoded-requires : goal.binding-decoded-requires

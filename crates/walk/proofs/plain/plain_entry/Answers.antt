@@ -1,15 +1,10 @@
 -- Registry by registry.
 use mathlib.Core.Path.{◌≡◌, refl}
-use mathlib.Core.List.{List, [], ◌∷◌}
-use Prim.Native.Nat.{ℕ, ◌≤◌}
+use Prim.Native.Nat.{◌≤◌}
 use native.Mathlib.Omega.{arith}
-use types.Run.{OneOf, miss}
-use denote.Enum.Declared.{tag_of}
 use Rattle.registry.specs.Registry.{number_of}
 use Rattle.registry.specs.declared.Registry.{Registry}
 use Rattle.registry.specs.declared.Registry.TheVariants.{Neighbor, Prefix, RouterCapability, Binding, Srv6Sid, Unregistered}
-use Rattle.registry.specs.contracts.Registry.{the_type}
-use borrow.Author.Rules.{rules}
 use Rattle.walk.proofs.plain.plain_entry.Goals as goal
 
 -- what is left of the registries without an area inside

@@ -1,7 +1,6 @@
 -- The decoder of registry 4, and the entry around it.
 use Rattle.meaning.specs.PlaceLaws.{part_rest}
 use Rattle.walk.specs.EntryLaws.{entry_octets, entry_room, rest_room, head_places}
-use borrow.Author.Rules.{rules}
 use Rattle.walk.proofs.plain.srv6_sid_entry.Goals as goal
 
 pub srv6_sid-decoded-requires : goal.srv6_sid-decoded-requires

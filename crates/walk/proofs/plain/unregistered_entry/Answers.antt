@@ -5,7 +5,6 @@ use Rattle.readings.specs.ReadingLaws.{of_unknown}
 use Rattle.walk.specs.EntryLaws.{entry_octets, rest_room, head_places}
 use lib.ListN.{drop}
 use Prim.Native.Nat.{◌+◌}
-use borrow.Author.Rules.{rules}
 use Rattle.walk.proofs.plain.unregistered_entry.Goals as goal
 
 pub complete-requires : goal.complete-requires
