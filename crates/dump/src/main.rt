@@ -2,15 +2,16 @@
 // area onto a clear tape and prints the outcome, then the records. A refusal prints the first line only.
 #![tactic(auto)]
 
-ghost use Rattle.std.specs.Prelude.{◌≡◌, true};
+ghost use Rattle.std.specs.Prelude.{◌≡◌, ◌≤◌, true, length, IfOk};
 ghost use Rattle.outcome.specs.Call.{Gives};
 ghost use Rattle.calls.specs.Calls.{read_call};
 ghost use Rattle.meaning.specs.Dump.{dump_call, columns};
 
 use calls::{clear, read};
-use libc::{STDIN_FILENO, STDOUT_FILENO};
 use octets::read::{octet, read_be_u32};
 use outcome::Outcome;
+use std::io;
+use std::io::Read;
 use tape::{Octet, Position, Record};
 
 // The answer to an input under 5 octets, or with an area over `LONGEST`.
@@ -70,38 +71,50 @@ fn columns_at(tape: &[u64], at: usize) -> [u64; 9]
     columns(record, at)
 }
 
-// Prints numbers on one line, a space between two.
-fn print_line(numbers: &[u64]) {
-    let mut i = 0;
-    while i < numbers.len() {
-        if 0 < i {
-            io::write_all(STDOUT_FILENO, b" ");
+// Reads until `octets` is full or the input ends, and gives how many octets it put at the front.
+fn read_full(input: &mut impl Read, octets: &mut [u8]) -> io::Result<usize>
+    ensures { IfOk result (λ n. n ≤ length octets.new) }
+{
+    let mut done = 0;
+    while done < octets.len() {
+        let n = input.read(&mut octets[done..])?;
+        if n == 0 {
+            break;
         }
-        io::print_decimal(STDOUT_FILENO, numbers[i]);
-        i += 1;
+        done += n;
     }
-    io::write_all(STDOUT_FILENO, b"\n");
+    Ok(done)
+}
+
+// Prints numbers on one line, a space between two.
+fn print_line(rt: &impl Print, numbers: &[u64]) -> io::Result<()> {
+    for (i, number) in numbers.iter().enumerate() {
+        if 0 < i {
+            rt.print(" ")?;
+        }
+        rt.print(*number)?;
+    }
+    rt.println("")
 }
 
 // Prints what the call gave, then the records.
-fn print_all(outcome: Outcome, tape: &[u64]) {
+fn print_all(rt: &impl Print, outcome: Outcome, tape: &[u64]) -> io::Result<()> {
     let written = outcome.written;
     let numbers = outcome.numbers();
-    print_line(&numbers);
-    let mut at = 0;
-    while at < written {
+    print_line(rt, &numbers)?;
+    for at in 0..written {
         let line = columns_at(tape, at);
-        print_line(&line);
-        at += 1;
+        print_line(rt, &line)?;
     }
+    Ok(())
 }
 
 // Reads the input, and prints what it is answered with.
-fn main() {
+fn main(rt: HostRuntime) -> io::Result<()> {
     let mut input = [0u8; READ];
-    let n = io::read_full(STDIN_FILENO, &mut input);
+    let n = read_full(&mut rt.reader(), &mut input)?;
     let mut tape = [0u64; WORDS];
     clear(&mut tape, SLIM);
     let outcome = dump_call(&input[..n], &mut tape);
-    print_all(outcome, &tape);
+    print_all(&rt, outcome, &tape)
 }

@@ -1,38 +1,38 @@
 // names: prints every name that a registry gives a type, a line each: registry, type, name.
 #![tactic(auto)]
 
-use libc::STDOUT_FILENO;
+use std::io;
 
 // Prints one line.
-fn print_line(registry: u64, t: u64, name: &[u8]) {
-    io::print_decimal(STDOUT_FILENO, registry);
-    io::write_all(STDOUT_FILENO, b" ");
-    io::print_decimal(STDOUT_FILENO, t);
-    io::write_all(STDOUT_FILENO, b" ");
-    io::write_all(STDOUT_FILENO, name);
-    io::write_all(STDOUT_FILENO, b"\n");
+fn print_line(rt: &impl Print, registry: u64, t: u64, name: &[u8]) -> io::Result<()> {
+    print!(rt; "{registry} {t} ")?;
+    rt.write_all(name)?;
+    rt.println("")
 }
 
 // Prints the line of one type, or nothing where it has no name.
-fn show(registry: u64, t: u64) {
+fn show(rt: &impl Print, registry: u64, t: u64) -> io::Result<()> {
     // Longer than every name.
     let mut text = [0u8; 64];
     let outcome = registry::name(registry, t, &mut text);
     let written = outcome.written;
     if 0 < written {
-        print_line(registry, t, &text[..written]);
+        print_line(rt, registry, t, &text[..written])?;
     }
+    Ok(())
 }
 
 // Prints the names of one registry.
-fn show_registry(registry: u64) {
+fn show_registry(rt: &impl Print, registry: u64) -> io::Result<()> {
     for t in 0..256 {
-        show(registry, t);
+        show(rt, registry, t)?;
     }
+    Ok(())
 }
 
-fn main() {
+fn main(rt: HostRuntime) -> io::Result<()> {
     for registry in 0..6 {
-        show_registry(registry);
+        show_registry(&rt, registry)?;
     }
+    Ok(())
 }

@@ -4,11 +4,12 @@
 // and one past the last, less the base (2 each), number (8), first child and one past the last descendant (2 each).
 #![tactic(auto)]
 
-ghost use Rattle.std.specs.Prelude.{◌≡◌, ◌<◌, ◌≤◌, length};
+ghost use Rattle.std.specs.Prelude.{◌≡◌, ◌<◌, ◌≤◌, length, IfOk};
 
 use calls::{clear, read};
-use libc::{STDIN_FILENO, STDOUT_FILENO};
 use octets::read::{octet, read_be_u16, read_be_u32, read_be_u64};
+use std::io;
+use std::io::Read;
 use tape::{Octet, Position};
 
 // Word 0 of a record, as its first three octets say.
@@ -43,35 +44,48 @@ fn same_record(tape: &[u64], at: usize, base: u64, said: &[u8]) -> bool
     words[5] == read_be_u16(said, 17) as u64
 }
 
+// Reads until `octets` is full or the input ends, and gives how many octets it put at the front.
+fn read_full(input: &mut impl Read, octets: &mut [u8]) -> io::Result<usize>
+    ensures { IfOk result (λ n. n ≤ length octets.new) }
+{
+    let mut done = 0;
+    while done < octets.len() {
+        let n = input.read(&mut octets[done..])?;
+        if n == 0 {
+            break;
+        }
+        done += n;
+    }
+    Ok(done)
+}
+
 // Reads the records that a case says, all of them, and gives whether each is the tape's.
-fn same_records(tape: &[u64], base: u64, count: usize) -> bool
+fn same_records(input: &mut impl Read, tape: &[u64], base: u64, count: usize) -> io::Result<bool>
     requires { base < 4294967296 }
 {
     let mut said = [0u8; 19];
     let mut same = true;
-    let mut at = 0;
-    while at < count {
-        let n = io::read_full(STDIN_FILENO, &mut said);
+    for at in 0..count {
+        let n = read_full(input, &mut said)?;
         if n < 19 {
-            return false;
+            return Ok(false);
         }
         if !same_record(tape, at, base, &said) {
             same = false;
         }
-        at += 1;
     }
-    same
+    Ok(same)
 }
 
 // Reads so many octets to the front of `octets`, and gives whether they were there.
-fn read_front(octets: &mut [u8], n: usize) -> bool
+fn read_front(input: &mut impl Read, octets: &mut [u8], n: usize) -> io::Result<bool>
     requires { n ≤ length octets.old }
 {
-    io::read_full(STDIN_FILENO, &mut octets[0..n]) == n
+    Ok(read_full(input, &mut octets[0..n])? == n)
 }
 
 // Reads the rest of a case and gives whether the push agrees with it.
-fn agrees(head: &[u8]) -> bool
+fn agrees(input: &mut impl Read, head: &[u8]) -> io::Result<bool>
     requires { length head.now ≡ 11 }
 {
     let base = read_be_u32(head, 1) as u64;
@@ -79,11 +93,11 @@ fn agrees(head: &[u8]) -> bool
     let covered = read_be_u16(head, 7) as usize;
     let count = read_be_u16(head, 9) as usize;
     if 512 < length {
-        return false;
+        return Ok(false);
     }
     let mut area = [0u8; 512];
-    if !read_front(&mut area, length) {
-        return false;
+    if !read_front(input, &mut area, length)? {
+        return Ok(false);
     }
     // Room for the 1 + 7 * 512 / 3 records that 512 octets can need.
     let mut tape = [0u64; 7174];
@@ -95,37 +109,35 @@ fn agrees(head: &[u8]) -> bool
         &mut tape,
         false,
     );
-    let same = same_records(&tape, base, count);
+    let same = same_records(input, &tape, base, count)?;
     if outcome.answer != 0 {
-        return false;
+        return Ok(false);
     }
     if outcome.covered != covered {
-        return false;
+        return Ok(false);
     }
     if outcome.written != count {
-        return false;
+        return Ok(false);
     }
     if outcome.needed != count {
-        return false;
+        return Ok(false);
     }
-    same
+    Ok(same)
 }
 
-fn main() {
+fn main(rt: HostRuntime) -> io::Result<()> {
+    let mut input = rt.reader();
     let mut head = [0u8; 11];
     let mut cases: u64 = 0;
     let mut agreed: u64 = 0;
     while cases < 1000000 {
-        if io::read_full(STDIN_FILENO, &mut head) < 11 {
+        if read_full(&mut input, &mut head)? < 11 {
             break;
         }
         cases += 1;
-        if agrees(&head) {
+        if agrees(&mut input, &head)? {
             agreed += 1;
         }
     }
-    io::print_decimal(STDOUT_FILENO, agreed);
-    io::write_all(STDOUT_FILENO, b" of ");
-    io::print_decimal(STDOUT_FILENO, cases);
-    io::write_all(STDOUT_FILENO, b" agreed\n");
+    println!(rt; "{agreed} of {cases} agreed")
 }
