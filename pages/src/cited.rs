@@ -20,15 +20,19 @@ pub const PAGES: [&str; 8] = [
 /// The endings by which a file is told from other words.
 const ENDINGS: [&str; 4] = [".antt", ".rt", ".rs", ".md"];
 
+/// The endings of the sources that are not Rattle.
+const ENDINGS_OF_OTHERS: [&str; 2] = [".rs", ".h"];
+
 /// What a text in backquotes cites.
 pub enum Citation<'a> {
-    /// Items of a file: `tape/specs/Record.antt: words`, or `RecordLaws: label-made`.
+    /// Items of a file: `tape/specs/Record.antt: words`, or `RecordLaws: label_made`.
     Items(&'a str, Vec<&'a str>),
     /// A file, a folder, or an edit by crate and name: `tools/run`, `compare/`, `tape/wrong_tag`.
     Path(&'a str),
     /// A module, or what it declares: `store::words::put`.
     Code(&'a str),
-    /// Theorems or fields, told from other words by their hyphens: `one-entry, old-records`.
+    /// Names of whatever is declared, told from other words by a line or a hyphen between their own:
+    /// `one_entry, old_records`.
     Names(Vec<&'a str>),
 }
 
@@ -49,15 +53,20 @@ fn citation(quote: &str) -> Option<Citation<'_>> {
         return Some(Citation::Code(quote));
     }
     let names: Vec<_> = quote.split(", ").collect();
-    let are_hyphenated = names.iter().all(|name| is_path(name) && name.contains('-'));
-    let is_name = quote.starts_with(char::is_lowercase);
-    (are_hyphenated && is_name).then_some(Citation::Names(names))
+    let are_joined = names.iter().all(|name| is_path(name) && has_words(name));
+    let is_name = quote.starts_with(char::is_lowercase) && !quote.ends_with('_');
+    (are_joined && is_name).then_some(Citation::Names(names))
 }
 
 /// Whether a word may be a path or a name.
 fn is_path(word: &str) -> bool {
-    let is_in_paths = |c: char| c.is_alphanumeric() || "._-/′".contains(c);
+    let is_in_paths = |c: char| c.is_alphanumeric() || "._-/'".contains(c);
     !word.is_empty() && word.chars().all(is_in_paths)
+}
+
+/// Whether a name is made of several words.
+fn has_words(name: &str) -> bool {
+    name.contains(['_', '-'])
 }
 
 /// Whether a word can only be a path.
@@ -121,14 +130,39 @@ impl<'a> Citable<'a> {
         paths.any(|path| self.tree.has(path))
     }
 
-    /// Whether a definition, a theorem, a field or a file has this name.
+    /// Whether a definition, a theorem, a field, a function, an edit or a file has this name, or what
+    /// is not Rattle has such a word.
     fn is_named(&self, name: &str) -> bool {
+        let edit = format!("{name}.edit");
+        self.is_stated(name)
+            || self.definitions.brings_in(name)
+            || self.is_declared(name)
+            || self.tree.has(name)
+            || self.tree.has(&edit)
+            || self.is_word(name)
+    }
+
+    /// Whether a file of definitions has an item or a field of this name.
+    fn is_stated(&self, name: &str) -> bool {
         let declares = |line: &str| {
             let line = line.trim_start().trim_start_matches("pub ");
             line.starts_with(&format!("{name} :"))
         };
-        let mut files = self.definitions.files();
-        files.any(|file| self.tree.text(file).lines().any(declares)) || self.tree.has(name)
+        let has = |file: &str| {
+            let is_item = self.definitions.item(file, name).is_some();
+            is_item || self.tree.text(file).lines().any(declares)
+        };
+        self.definitions.files().any(has)
+    }
+
+    /// Whether this is a word of the C header or of a Rust source outside of this package.
+    fn is_word(&self, name: &str) -> bool {
+        let is_between = |c: char| !c.is_alphanumeric() && c != '_';
+        let mut texts = ENDINGS_OF_OTHERS
+            .iter()
+            .flat_map(|ending| self.tree.texts("", ending))
+            .filter(|(file, _)| !file.starts_with("pages/"));
+        texts.any(|(_, text)| text.split(is_between).any(|word| word == name))
     }
 
     /// What a page cites that is not there, and the lines where a quote has no end.

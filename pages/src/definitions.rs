@@ -88,6 +88,13 @@ impl Definitions {
         unknown.map(|(_, name)| name.as_str()).collect()
     }
 
+    /// Whether a file brings in this name, from whichever library.
+    pub fn brings_in(&self, name: &str) -> bool {
+        let uses = self.0.values().flat_map(|file| &file.uses);
+        let mut names = uses.flat_map(|from| &from.names);
+        names.any(|(found, _)| found == name)
+    }
+
     /// What an item speaks of.
     pub fn spoken_of(&self, (file, name): Place<'_>) -> BTreeSet<Place<'_>> {
         let says = self.item(file, name).map_or("", |item| &item.says);
@@ -145,7 +152,7 @@ impl Item {
 
 /// An operator as it is written between others.
 fn bare(name: &str) -> &str {
-    name.trim_matches('_')
+    name.trim_matches('◌')
 }
 
 /// How far a line is indented.
@@ -187,13 +194,13 @@ fn is_import(line: &str) -> bool {
     line.starts_with("use ") || line.starts_with("mod ")
 }
 
-/// What a line brings in of our definitions: `use Rattle·CRATE.specs.FILE.{a, b as c}`, with or
+/// What a line brings in of our definitions: `use Rattle.CRATE.specs.FILE.{a, b as c}`, with or
 /// without the names.
 fn using(line: &str) -> Option<Use> {
-    let (_, path) = line.split_once("use Rattle·")?;
+    let (_, path) = line.split_once("use Rattle.")?;
     let (of, inside) = path.trim_end_matches([';', '}']).split_once(".specs.")?;
     let (module, list) = inside.split_once(".{").unwrap_or((inside, ""));
-    let (of, module) = (of.trim_end_matches("·specs"), module.replace('.', "/"));
+    let module = module.replace('.', "/");
     let names = list.split(", ").filter(|name| !name.is_empty());
     let names = names.map(|name| name.split_once(" as ").unwrap_or((name, name)));
     let names = names.map(|(name, known)| (name.into(), known.into()));

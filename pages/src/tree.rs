@@ -6,7 +6,7 @@ use std::path::Path;
 use std::rc::Rc;
 
 /// The folders that are not the repository's own.
-const LEFT_OUT: [&str; 2] = [".git", "target"];
+const LEFT_OUT: [&str; 3] = [".git", "target", "out"];
 
 /// The files of the repository: their paths and texts.
 #[derive(Clone, Default)]

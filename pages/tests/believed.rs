@@ -27,7 +27,7 @@ fn with_more(tree: &Tree, definitions: &Definitions, items: &[Place<'_>]) -> Tre
         let heading = &definitions.item(file, name).expect(name).heading;
         let spoken = heading.replacen(name, &format!("{name} (x : added{k})"), 1);
         let text = spoiled.text(file).replacen(heading, &spoken, 1);
-        let used = format!("use Rattle·outcome.specs.Added.{{added{k}}}\n");
+        let used = format!("use Rattle.outcome.specs.Added.{{added{k}}}\n");
         spoiled = spoiled.with(file, &(used + &text));
     }
     spoiled
@@ -122,7 +122,7 @@ fn one_more_definition_in_the_contract_of_any_entry_point_is_found() {
         let source = tree
             .text(&function.file)
             .replacen(ensures, &format!("added {ensures}"), 1);
-        let source = format!("ghost use Rattle·outcome.specs.Added.{{added}};\n{source}");
+        let source = format!("ghost use Rattle.outcome.specs.Added.{{added}};\n{source}");
         let spoiled = tree
             .with(&function.file, &source)
             .with(ADDED, "abbrev added : N\n");
