@@ -11,21 +11,20 @@ const BASE: u32 = 100;
 /// The text before the first case.
 const HEAD: &str = "\
 -- What the Rust of docs/src shows of values around each row's least length and of the special cases: pushes at base 100 (made by `oracle cases`).
-use mathlib.Core.List.{List, [], _∷_}
-use Prim.Native.Nat.{ℕ}
-use Rattle·meaning·specs.specs.Examples.Example.{printed, Case, push}
+use Rattle.std.specs.Prelude.{List, [], ◌∷◌, ℕ}
+use Rattle.meaning.specs.Examples.Example.{printed, Case, push}
 
 -- registry, area, octets covered, records (label, shape, registry, words 1 to 5)
-unfoldable pub rustCases : List Case
-rustCases =
+unfoldable pub rust_cases : List Case
+rust_cases =
 ";
 
 /// The text between the cases and the types.
 const MIDDLE: &str = "    []
 
 -- of each registry, the types that are read, each with the least length of a value that is
-unfoldable pub rustTypes : List (List (List ℕ))
-rustTypes =
+unfoldable pub rust_types : List (List (List ℕ))
+rust_types =
 ";
 
 /// The label of a value that is not read.
