@@ -1,3 +1,4 @@
+# shellcheck shell=bash
 # library.sh: what the tools share that take what was proved; they read it in with `.`, at the top of the tree.
 
 # needs COMMAND..: ends in words where one of them is not installed.

@@ -89,7 +89,9 @@ fn upper_case(name: &str) -> String {
 /// The equations of a function, their names in upper case.
 fn upper_equations(text: &str, function: &str) -> Vec<(String, u64)> {
     let equations = equations(text, function).into_iter();
-    equations.map(|(name, number)| (upper_case(&name), number)).collect()
+    equations
+        .map(|(name, number)| (upper_case(&name), number))
+        .collect()
 }
 
 /// Names with their places, counted from 0.
@@ -127,7 +129,10 @@ fn the_shapes_of_the_definitions_are_those_of_document_01() {
     let expected = numbered(SHAPE_NAMES);
     let (leaves, containers) = expected.split_at(7);
     assert_eq!(upper_equations(SHAPE_DEFINITIONS, "shape_number"), leaves);
-    assert_eq!(upper_equations(SHAPE_DEFINITIONS, "container_number"), containers);
+    assert_eq!(
+        upper_equations(SHAPE_DEFINITIONS, "container_number"),
+        containers
+    );
 }
 
 #[test]
