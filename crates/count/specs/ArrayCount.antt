@@ -98,7 +98,7 @@ module _ (v : List ℕ) {kind r : ℕ} where
   bandwidth_counts =
       array_counts 0 11 v 8 32 refl refl
       (λ long.
-      let x = numbers_even Label.bandwidthElement u32 4 0 (omega arith) (take 32 v) in
+      let x = numbers_even Label.bandwidth_element u32 4 0 (omega arith) (take 32 v) in
       let n = length-take-le 32 v long in
       ((λ at. omega (arith, x.records at), omega arith), omega arith))
 

@@ -1,7 +1,7 @@
 // The records of a last field that goes by its octets: an SRv6 tail, ranges, a push.
 ghost use Rattle.std.specs.Prelude.{◌≡◌, ℕ, ◌+◌, ◌*◌, ◌≤◌, ◌<◌, ◌^◌, length};
 ghost use Rattle.meaning.specs.Label;
-ghost use Rattle.meaning.specs.Field.{array, tail as tailField, push, from, ranges as rangeElement};
+ghost use Rattle.meaning.specs.Field.{array, tail as tail_field, push, from, ranges as range_element};
 ghost use Rattle.count.specs.Records.{last_records, ranges_records, Heads};
 
 use crate::nested::nested_area;
@@ -11,7 +11,7 @@ use fields::array::range_length;
 // The records of an SRv6 tail from `at` on, and of what is left of the value behind it.
 fn tail(value: &[u8], at: usize) -> usize
     requires { (at + 16 ≤ length value.now) × (length value.now < 2 ^ 32) }
-    ensures { (result ≤ 4 * length value.now) × ((registry base : ℕ) → result ≡ last_records registry value.now base (tailField at)) }
+    ensures { (result ≤ 4 * length value.now) × ((registry base : ℕ) → result ≡ last_records registry value.now base (tail_field at)) }
 {
     let n = value.len();
     let length_at = at + 16;
@@ -29,7 +29,7 @@ fn tail(value: &[u8], at: usize) -> usize
 // The records of a value that has `head` fields and then an SRv6 tail from `at` on; one where the tail's SID is not there.
 pub fn head_and_tail(value: &[u8], head: usize, at: usize) -> usize
     requires { (head ≤ 5) × (at < 2 ^ 32) × (length value.now < 2 ^ 32) }
-    ensures { Heads (at + 16) head value.now (tailField at) result }
+    ensures { Heads (at + 16) head value.now (tail_field at) result }
 {
     if value.len() < at + 16 {
         return 1;
@@ -59,7 +59,7 @@ fn ranges(octets: &[u8]) -> usize
 // The records of a value that is flags and ranges.
 pub fn flags_and_ranges(value: &[u8]) -> usize
     requires { length value.now < 2 ^ 32 }
-    ensures { Heads 1 1 value.now (array Label.ranges (from 1) rangeElement) result }
+    ensures { Heads 1 1 value.now (array Label.ranges (from 1) range_element) result }
 {
     let n = value.len();
     if n < 1 {

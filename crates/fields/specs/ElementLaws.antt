@@ -41,6 +41,6 @@ module _ (registry base : ℕ) (p : List ℕ) {slim : Bool} {t u v w : List ℕ}
       put
 
 -- a range has 3 records
-pub range_size : (registry base : ℕ) (p : List ℕ) → 8 ≤ length p → size (element_trees ranges registry p base) ≡ 3
+pub range_size_lem : (registry base : ℕ) (p : List ℕ) → 8 ≤ length p → size (element_trees ranges registry p base) ≡ 3
 unfolding element_trees ◌⧺◌
-range_size registry base p long = omega (arith, ap size (sid_shown p 5 Label.rangeSid registry base (omega arith)))
+range_size_lem registry base p long = omega (arith, ap size (sid_shown p 5 Label.range_sid registry base (omega arith)))

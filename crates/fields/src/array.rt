@@ -7,7 +7,7 @@ ghost use Rattle.tape.specs.Laid.{Room, RoomFor, Lays};
 ghost use Rattle.meaning.specs.Tree.{content};
 ghost use Rattle.meaning.specs.Cut.{pieces, total};
 ghost use Rattle.meaning.specs.Frame.{whole, range_length};
-ghost use Rattle.meaning.specs.Field.{msds as msdElement, ranges as rangeElement};
+ghost use Rattle.meaning.specs.Field.{msds as msd_element, ranges as range_element};
 ghost use Rattle.meaning.specs.Array.{element_trees};
 ghost use Rattle.fields.specs.Shows.{LaysUpTo, numbers_in, msds_in, ranges_in};
 
@@ -74,7 +74,7 @@ pub fn numbers(
 // Lays an MSD: its type and its value.
 fn msd(octets: &[u8], source: Source, tape: &mut [u64], slim: bool, position: Position) -> Position
     requires { (length octets.now ≡ 2) × (source.base.0 + 2 < 2 ^ 32) × RoomFor slim tape.old (position.0 + 3) }
-    ensures { Lays slim (element_trees msdElement source.registry octets.now source.base.0) tape position result }
+    ensures { Lays slim (element_trees msd_element source.registry octets.now source.base.0) tape position result }
 {
     let first = Position(position.0 + 1);
     let second = number8(octets, source, Label::MSD_TYPE, 0, tape, slim, first);
@@ -160,7 +160,7 @@ fn range(
     position: Position,
 ) -> Position
     requires { (8 ≤ length octets.now) × (source.base.0 + length octets.now < 2 ^ 32) × RoomFor slim tape.old (position.0 + 3) }
-    ensures { Lays slim (element_trees rangeElement source.registry octets.now source.base.0) tape position result }
+    ensures { Lays slim (element_trees range_element source.registry octets.now source.base.0) tape position result }
 {
     let n = octets.len();
     let first = Position(position.0 + 1);

@@ -14,7 +14,7 @@ module _ (plan : Plan) (walk : Walk) (registry : ℕ) where
   -- a complete entry e (type, length, value), whose first octet is at a place
   unfoldable pub entry_trees : List ℕ → ℕ → Forest
   entry_trees e at =
-      over Label.subTlv object registry at (at + length e)
+      over Label.sub_tlv object registry at (at + length e)
       (one Label.type u8 registry at (at + 1) (get_or e 0 0)
       ⧺ one Label.length u8 registry (at + 1) (at + 2) (get_or e 1 0)
       ⧺ value_trees walk registry (drop 2 e) (at + 2) (plan registry (get_or e 0 0) (drop 2 e)))
@@ -22,7 +22,7 @@ module _ (plan : Plan) (walk : Walk) (registry : ℕ) where
   -- an area whose first octet is at base: no record where it is empty
   unfoldable pub walk_trees : List ℕ → ℕ → Forest
   walk_trees [] base = none
-  walk_trees (x ∷ xs) base = array_of Label.subTlvs registry entry_trees base (entries (x ∷ xs))
+  walk_trees (x ∷ xs) base = array_of Label.sub_tlvs registry entry_trees base (entries (x ∷ xs))
 
 -- inside an area of the nested level (registries 4 and 5) nothing is walked again: its values have no area inside, by the table's reading
 abbrev pub no_walk : Walk

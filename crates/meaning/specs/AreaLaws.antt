@@ -20,7 +20,7 @@ use Rattle.meaning.specs.Area.{entry_trees, walk_trees, walked, pushed}
 
 -- an area that is not empty shows one array over its entries
 pub walk_shows : (plan : Plan) (walk : Walk) (registry : ℕ) (area : List ℕ) (base : ℕ) → (area ≡ [] → ⊥)
-    → walk_trees plan walk registry area base ≡ array_of Label.subTlvs registry (entry_trees plan walk registry) base (entries area)
+    → walk_trees plan walk registry area base ≡ array_of Label.sub_tlvs registry (entry_trees plan walk registry) base (entries area)
 unfolding walk_trees
 walk_shows plan walk registry [] base some = absurd (some refl)
 walk_shows plan walk registry (x ∷ xs) base some = refl

@@ -3,13 +3,13 @@ use Rattle.std.specs.Prelude.{ℕ}
 
 -- the labels, by their names in docs/src
 pub data Label : Type 0 where
-  type length value raw subTlvs adminGroup localIdentifier remoteIdentifier : Label
-  ipv4_interface_address ipv4NeighborAddress ipv6InterfaceAddress ipv6NeighborAddress maxBandwidth maxReservableBandwidth unreservedBandwidth teDefaultMetric : Label
-  flags weight algorithm sid neighborSystemId anomalous delay minDelay : Label
-  max_delay delayVariation linkLoss bandwidth endpointBehavior srv6_sid locatorBlockLength locatorNodeLength : Label
-  function_length argumentLength tags flagX flagR flagN ipv4SourceRouterId ipv6SourceRouterId : Label
-  ranges algorithms msds preference srv6Flags ipv4TeRouterId ipv6TeRouterId subTlv : Label
-  range rangeSize rangeSid msd msdType msdValue bandwidthElement tag : Label
+  type length value raw sub_tlvs admin_group local_identifier remote_identifier : Label
+  ipv4_interface_address ipv4_neighbor_address ipv6_interface_address ipv6_neighbor_address max_bandwidth max_reservable_bandwidth unreserved_bandwidth te_default_metric : Label
+  flags weight algorithm sid neighbor_system_id anomalous delay min_delay : Label
+  max_delay delay_variation link_loss bandwidth endpoint_behavior srv6_sid locator_block_length locator_node_length : Label
+  function_length argument_length tags flag_x flag_r flag_n ipv4_source_router_id ipv6_source_router_id : Label
+  ranges algorithms msds preference srv6_flags ipv4_te_router_id ipv6_te_router_id sub_tlv : Label
+  range range_size range_sid msd msd_type msd_value bandwidth_element tag : Label
   algorithm_element : Label
 
 -- the number of a label
@@ -18,56 +18,56 @@ number type = 0
 number length = 1
 number value = 2
 number raw = 3
-number subTlvs = 4
-number adminGroup = 5
-number localIdentifier = 6
-number remoteIdentifier = 7
+number sub_tlvs = 4
+number admin_group = 5
+number local_identifier = 6
+number remote_identifier = 7
 number ipv4_interface_address = 8
-number ipv4NeighborAddress = 9
-number ipv6InterfaceAddress = 10
-number ipv6NeighborAddress = 11
-number maxBandwidth = 12
-number maxReservableBandwidth = 13
-number unreservedBandwidth = 14
-number teDefaultMetric = 15
+number ipv4_neighbor_address = 9
+number ipv6_interface_address = 10
+number ipv6_neighbor_address = 11
+number max_bandwidth = 12
+number max_reservable_bandwidth = 13
+number unreserved_bandwidth = 14
+number te_default_metric = 15
 number flags = 16
 number weight = 17
 number algorithm = 18
 number sid = 19
-number neighborSystemId = 20
+number neighbor_system_id = 20
 number anomalous = 21
 number delay = 22
-number minDelay = 23
+number min_delay = 23
 number max_delay = 24
-number delayVariation = 25
-number linkLoss = 26
+number delay_variation = 25
+number link_loss = 26
 number bandwidth = 27
-number endpointBehavior = 28
+number endpoint_behavior = 28
 number srv6_sid = 29
-number locatorBlockLength = 30
-number locatorNodeLength = 31
+number locator_block_length = 30
+number locator_node_length = 31
 number function_length = 32
-number argumentLength = 33
+number argument_length = 33
 number tags = 34
-number flagX = 35
-number flagR = 36
-number flagN = 37
-number ipv4SourceRouterId = 38
-number ipv6SourceRouterId = 39
+number flag_x = 35
+number flag_r = 36
+number flag_n = 37
+number ipv4_source_router_id = 38
+number ipv6_source_router_id = 39
 number ranges = 40
 number algorithms = 41
 number msds = 42
 number preference = 43
-number srv6Flags = 44
-number ipv4TeRouterId = 45
-number ipv6TeRouterId = 46
-number subTlv = 47
+number srv6_flags = 44
+number ipv4_te_router_id = 45
+number ipv6_te_router_id = 46
+number sub_tlv = 47
 number range = 48
-number rangeSize = 49
-number rangeSid = 50
+number range_size = 49
+number range_sid = 50
 number msd = 51
-number msdType = 52
-number msdValue = 53
-number bandwidthElement = 54
+number msd_type = 52
+number msd_value = 53
+number bandwidth_element = 54
 number tag = 55
 number algorithm_element = 56

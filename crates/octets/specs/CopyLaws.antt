@@ -7,8 +7,8 @@ use Rattle.octets.specs.Copy.{in_front}
 
 -- a turn
 pub copy_more : (to from : List ℕ) (i : ℕ) → i < length to → i < length from → set (paste to 0 from i) i (get_or from i 0) ≡ paste to 0 from (i + 1)
-copy_more to from i inTo inFrom =
-    rw add-one (subst (λ (k : ℕ). set (paste to 0 from i) k (get_or from i 0) ≡ paste to 0 from (suc i)) (zero-add i) (paste-suc to 0 from i 0 (omega arith) inFrom))
+copy_more to from i in_to in_from =
+    rw add-one (subst (λ (k : ℕ). set (paste to 0 from i) k (get_or from i 0) ≡ paste to 0 from (suc i)) (zero-add i) (paste-suc to 0 from i 0 (omega arith) in_from))
 
 -- after the last turn
 pub copied : (to from : List ℕ) (i : ℕ) → i ≡ length from → paste to 0 from i ≡ in_front from to

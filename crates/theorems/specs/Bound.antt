@@ -65,7 +65,7 @@ element_small : (element : Element) (registry : ℕ) (xs : List ℕ) → 0 < ele
 unfolding element_trees ◌⧺◌
 element_small (numbers label shape width) registry xs some at = omega arith
 element_small msds registry xs some at = omega (arith, whole_is 2 xs some)
-element_small ranges registry xs some at = omega (arith, range_eight xs some, size_sid_le Label.rangeSid registry (take (range_length xs) xs) at 5)
+element_small ranges registry xs some at = omega (arith, range_eight xs some, size_sid_le Label.range_sid registry (take (range_length xs) xs) at 5)
 
 array_bound : (label : Label) (registry at : ℕ) (element : Element) (xs : List ℕ)
     → 3 * size (array_of label registry (element_trees element registry) at (pieces (element_length element) xs)) ≤ 3 + 7 * total (pieces (element_length element) xs)

@@ -65,7 +65,7 @@ module _ (plan : Plan) (registry base : ℕ) (ps : List (List ℕ)) (q : List �
 
     -- on a tape stand, from position `at` on, the array's record, the records of each entry, and those beside the array, and no others are new
     pub record EntryByEntry (slim : Bool) (e : Ending) (area tape : List ℕ) (written : ℕ) : Type 0 where
-      pub top : record_at slim tape at ≡ container_record (content (number Label.subTlvs) (container_number array) registry base (base + covered area) 0) (suc at) end_at
+      pub top : record_at slim tape at ≡ container_record (content (number Label.sub_tlvs) (container_number array) registry base (base + covered area) 0) (suc at) end_at
       pub earlier : Holds slim tape (suc at) before
       pub itself : Holds slim tape own_at own
       pub later : Holds slim tape after_at after

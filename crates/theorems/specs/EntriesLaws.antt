@@ -49,18 +49,18 @@ holds_node slim m k tape at there =
 module _ (plan : Plan) (registry : ℕ) (area : List ℕ) (base : ℕ) (ps : List (List ℕ)) (q : List ℕ) (us : List (List ℕ)) (found : entries area ≡ ps ++ q ∷ us) where
   -- the walk shows an array over the entries
   walked_entries : walked plan registry area base
-      ≡ over Label.subTlvs array registry base (base + covered area) (before plan registry base ps q us ⧺ own plan registry base ps q us ⧺ after plan registry base ps q us)
+      ≡ over Label.sub_tlvs array registry base (base + covered area) (before plan registry base ps q us ⧺ own plan registry base ps q us ⧺ after plan registry base ps q us)
   unfolding walked covered array_of each
   walked_entries =
       let entry_of = entry_trees plan (inner_walk plan) registry in
       walk_shows plan (inner_walk plan) registry area base (λ none-there. omega (arith, ap length (sym found ∙ ap entries none-there ∙ entries_none), length-append ps (q ∷ us)))
-      ∙ ap (λ (trees : Forest). over Label.subTlvs array registry base (base + total (entries area)) trees) (ap (each entry_of base) found ∙ each-++ entry_of base ps (q ∷ us))
+      ∙ ap (λ (trees : Forest). over Label.sub_tlvs array registry base (base + total (entries area)) trees) (ap (each entry_of base) found ∙ each-++ entry_of base ps (q ∷ us))
 
   -- and the call what stands beside it
   called_entries : (e : Ending) → called e plan registry area base
-      ≡ over Label.subTlvs array registry base (base + covered area) (before plan registry base ps q us ⧺ own plan registry base ps q us ⧺ after plan registry base ps q us) ⧺ beside e registry area base
+      ≡ over Label.sub_tlvs array registry base (base + covered area) (before plan registry base ps q us ⧺ own plan registry base ps q us ⧺ after plan registry base ps q us) ⧺ beside e registry area base
   unfolding pushed push_by
-  called_entries leave = walked_entries ∙ sym (⧺-none (over Label.subTlvs array registry base (base + covered area) (before plan registry base ps q us ⧺ own plan registry base ps q us ⧺ after plan registry base ps q us)))
+  called_entries leave = walked_entries ∙ sym (⧺-none (over Label.sub_tlvs array registry base (base + covered area) (before plan registry base ps q us ⧺ own plan registry base ps q us ⧺ after plan registry base ps q us)))
   called_entries show = ap (λ (f : Forest). f ⧺ beside show registry area base) walked_entries
 
 -- on a tape
@@ -73,7 +73,7 @@ entry_by_entry slim e plan registry base area ps q us tape at found there =
     let first = before plan registry base ps q us in
     let mine = own plan registry base ps q us in
     let rest = after plan registry base ps q us in
-    let m : Content = content (number Label.subTlvs) (container_number array) registry base (base + covered area) 0 in
+    let m : Content = content (number Label.sub_tlvs) (container_number array) registry base (base + covered area) 0 in
     let parts = holds-⧺ slim (node m (first ⧺ mine ⧺ rest) none) (beside e registry area base) tape at (rw trees at there) in
     let inside = holds_node slim m (first ⧺ mine ⧺ rest) tape at parts.0 in
     let one = holds-⧺ slim first (mine ⧺ rest) tape (suc at) inside.1 in

@@ -110,7 +110,7 @@ within_element msds registry xs some at =
 within_element ranges registry xs some at =
     let p : List ℕ = take (range_length xs) xs in
     let same : length p ≡ range_length xs = length-take-le (range_length xs) xs (element_fits ranges xs) in
-    (omega arith, (omega (arith, same), ((omega arith, (omega (arith, same, range_eight xs some), within_sid Label.rangeSid registry p at 5)), tt)))
+    (omega arith, (omega (arith, same), ((omega arith, (omega (arith, same, range_eight xs some), within_sid Label.range_sid registry p at 5)), tt)))
 
 within_array : (label : Label) (registry : ℕ) (f : List ℕ → ℕ → Forest) (at : ℕ) (ps : List (List ℕ)) (lo hi : ℕ) → lo ≤ at → at + total ps ≤ hi → Within at (at + total ps) (each f at ps) → Within lo hi (array_of label registry f at ps)
 unfolding Within array_of
@@ -176,7 +176,7 @@ module _ (plan : Plan) (fitting : Fitting plan) where
     unfolding walk_trees entries
     within_walk [] base = within_none base (base + 0)
     within_walk (x ∷ xs) base =
-        within_array Label.subTlvs registry (entry_trees plan walk registry) base (pieces entry_length (x ∷ xs)) base (base + length (x ∷ xs)) (omega arith)
+        within_array Label.sub_tlvs registry (entry_trees plan walk registry) base (pieces entry_length (x ∷ xs)) base (base + length (x ∷ xs)) (omega arith)
         (omega (arith, total_le entry_length entry_fits (x ∷ xs)))
         (pieces_within entry_length entry_fits (entry_trees plan walk registry) own (x ∷ xs) base)
       where

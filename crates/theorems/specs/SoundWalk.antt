@@ -10,7 +10,7 @@ use Rattle.registry.specs.declared.Registry.TheVariants.{Srv6Sid, Unregistered}
 use Rattle.calls.specs.Limits.{last_registry}
 use Rattle.tape.specs.Forest.{Forest, none}
 use Rattle.meaning.specs.Label.{Label}
-use Rattle.meaning.specs.Shape.{Shape, u8, u32, ipv6, bytes, Container, array as arrayShape, object, has_number}
+use Rattle.meaning.specs.Shape.{Shape, u8, u32, ipv6, bytes, Container, array as array_shape, object, has_number}
 use Rattle.meaning.specs.Cut.{total, each}
 use Rattle.meaning.specs.Frame.{entries, covered, remainder}
 use Rattle.meaning.specs.Field.{Element, numbers, msds, ranges, Field, part, flag, sid, array, tail, push, Plan}
@@ -72,16 +72,16 @@ module _ (registry : ℕ) (low : registry ≤ last_registry) where
   sound_element (numbers label shape width) p at = sound_part 1 registry low label shape at (at + width) p 0 width (omega arith)
   sound_element msds p at =
       sound_over 0 registry low Label.msd object at (at + 2) _ (omega arith)
-      (sound-⧺ 0 _ _ (sound_number 0 registry low Label.msdType u8 at (at + 1) (get_or p 0 0) (omega arith) refl)
-      (sound_number 0 registry low Label.msdValue u8 (at + 1) (at + 2) (get_or p 1 0) (omega arith) refl))
+      (sound-⧺ 0 _ _ (sound_number 0 registry low Label.msd_type u8 at (at + 1) (get_or p 0 0) (omega arith) refl)
+      (sound_number 0 registry low Label.msd_value u8 (at + 1) (at + 2) (get_or p 1 0) (omega arith) refl))
   sound_element ranges p at =
       sound_over 0 registry low Label.range object at (at + length p) _ (omega arith)
-      (sound-⧺ 0 _ _ (sound_number 0 registry low Label.rangeSize u32 at (at + 3) (big_endian p 0 3) (omega arith) refl)
-      (sound_sid 0 registry low Label.rangeSid p at 5))
+      (sound-⧺ 0 _ _ (sound_number 0 registry low Label.range_size u32 at (at + 3) (big_endian p 0 3) (omega arith) refl)
+      (sound_sid 0 registry low Label.range_sid p at 5))
 
   sound_array : (d : ℕ) (label : Label) (f : List ℕ → ℕ → Forest) (at : ℕ) (ps : List (List ℕ)) → ((p : List ℕ) (at : ℕ) → Sound d (f p at)) → Sound (suc d) (array_of label registry f at ps)
   unfolding array_of
-  sound_array d label f at ps x = sound_over d registry low label arrayShape at (at + total ps) (each f at ps) (omega arith) (sound_each d f x ps at)
+  sound_array d label f at ps x = sound_over d registry low label array_shape at (at + total ps) (each f at ps) (omega arith) (sound_each d f x ps at)
 
 -- values
 
@@ -125,7 +125,7 @@ module _ (plan : Plan) (walk : Walk) (registry : ℕ) (low : registry ≤ last_r
   sound_entry : (e : List ℕ) (at : ℕ) → Sound (suc d) (entry_trees plan walk registry e at)
   unfolding entry_trees
   sound_entry e at =
-      sound_over d registry low Label.subTlv object at (at + length e) _ (omega arith)
+      sound_over d registry low Label.sub_tlv object at (at + length e) _ (omega arith)
       (sound-⧺ d _ _ (sound_number d registry low Label.type u8 at (at + 1) (get_or e 0 0) (omega arith) refl)
       (sound-⧺ d _ _ (sound_number d registry low Label.length u8 (at + 1) (at + 2) (get_or e 1 0) (omega arith) refl)
       (values (get_or e 0 0) (drop 2 e) (at + 2))))
@@ -133,7 +133,7 @@ module _ (plan : Plan) (walk : Walk) (registry : ℕ) (low : registry ≤ last_r
   sound_walk : (area : List ℕ) (base : ℕ) → Sound (suc (suc d)) (walk_trees plan walk registry area base)
   unfolding walk_trees
   sound_walk [] base = sound_none (suc (suc d))
-  sound_walk (x ∷ xs) base = sound_array registry low (suc d) Label.subTlvs (entry_trees plan walk registry) base (entries (x ∷ xs)) sound_entry
+  sound_walk (x ∷ xs) base = sound_array registry low (suc d) Label.sub_tlvs (entry_trees plan walk registry) base (entries (x ∷ xs)) sound_entry
 
 -- the registries of areas inside a value are registries
 inner_low : (registry : ℕ) → is_inner registry ≡ true → registry ≤ last_registry

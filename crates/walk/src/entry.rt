@@ -1,7 +1,7 @@
 // An entry around its value: what its decoder leaves, and the object, the type and the length.
 ghost use Rattle.std.specs.Prelude.{◌≡◌, ◌+◌, ◌≤◌, ◌<◌, ◌^◌, length, drop};
 ghost use Rattle.tape.specs.Laid.{Room, RoomFor, Lays};
-ghost use Rattle.meaning.specs.Tree.{content, raw as rawTrees};
+ghost use Rattle.meaning.specs.Tree.{content, raw as raw_trees};
 ghost use Rattle.walk.specs.Rest.{rest_of};
 ghost use Rattle.walk.specs.Entry.{entry_of, leaf_entry, AsksAround, Completes};
 
@@ -111,8 +111,8 @@ pub fn raw(
     slim: bool,
     position: Position,
 ) -> Position
-    requires { Room slim (rawTrees source.registry (source.base.0 + at) (drop at octets.now)) (length octets.now) source.base.0 tape.old position.0 }
-    ensures { Lays slim (rawTrees source.registry (source.base.0 + at) (drop at octets.now)) tape position result }
+    requires { Room slim (raw_trees source.registry (source.base.0 + at) (drop at octets.now)) (length octets.now) source.base.0 tape.old position.0 }
+    ensures { Lays slim (raw_trees source.registry (source.base.0 + at) (drop at octets.now)) tape position result }
 {
     let n = octets.len();
     if n <= at {

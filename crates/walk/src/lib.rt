@@ -6,7 +6,7 @@ ghost use Rattle.std.specs.Prelude.{◌+◌, ◌≤◌, ◌<◌, ◌^◌, length
 ghost use Rattle.registry.specs.Registry.{number_of};
 ghost use Rattle.tape.specs.Laid.{Room, RoomFor, Lays};
 ghost use Rattle.meaning.specs.Frame.{covered};
-ghost use Rattle.meaning.specs.Field.{tail as tailField};
+ghost use Rattle.meaning.specs.Field.{tail as tail_field};
 ghost use Rattle.meaning.specs.Table.{usual};
 ghost use Rattle.meaning.specs.Value.{field_end, field_trees};
 ghost use Rattle.meaning.specs.Area.{walked, pushed};
@@ -69,8 +69,8 @@ fn tail(
     slim: bool,
     position: Position,
 ) -> Decoded
-    requires { (at + 16 ≤ length value.now) × Room slim (field_trees (walked usual) source.registry value.now source.base.0 (tailField at)) (length value.now) source.base.0 tape.old position.0 }
-    ensures { Reads slim (took (field_end value.now (tailField at)) (field_trees (walked usual) source.registry value.now source.base.0 (tailField at))) tape.old tape.new position.0 result }
+    requires { (at + 16 ≤ length value.now) × Room slim (field_trees (walked usual) source.registry value.now source.base.0 (tail_field at)) (length value.now) source.base.0 tape.old position.0 }
+    ensures { Reads slim (took (field_end value.now (tail_field at)) (field_trees (walked usual) source.registry value.now source.base.0 (tail_field at))) tape.old tape.new position.0 result }
 {
     let n = value.len();
     let base = source.base.0;

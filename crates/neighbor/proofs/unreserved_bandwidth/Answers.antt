@@ -20,11 +20,11 @@ pub numbers-shown-requires : goal.numbers-shown-requires
 unfolding usual fields_of table least_in fields_in
 numbers-shown-requires c =
     let g = c.args in
-    let asked = rw (numbers_row Label.unreservedBandwidth (first 32) refl g.source.registry g.value.now g.source.base.0 Label.bandwidthElement u32 4 refl) at (row_room 0 11 g.source.registry g.value.now g.source.base.0 refl c.if-value-lt32.false c.requires) in
+    let asked = rw (numbers_row Label.unreserved_bandwidth (first 32) refl g.source.registry g.value.now g.source.base.0 Label.bandwidth_element u32 4 refl) at (row_room 0 11 g.source.registry g.value.now g.source.base.0 refl c.if-value-lt32.false c.requires) in
     (refl, record { octet = omega (arith, asked.octet, length-take-le 32 g.value.now c.if-value-lt32.false); position = asked.position })
 
 pub returns : goal.returns
 unfolding usual fields_of table least_in fields_in
 returns c =
     let g = c.args in
-    row_long 0 11 g.source.registry g.value.now g.source.base.0 refl c.if-value-lt32.false (reads_as (numbers_row Label.unreservedBandwidth (first 32) refl g.source.registry g.value.now g.source.base.0 Label.bandwidthElement u32 4 refl) (record { taken = ap Octets c.numbers-shown.ensures.covers; laid = c.numbers-shown.ensures.laid }))
+    row_long 0 11 g.source.registry g.value.now g.source.base.0 refl c.if-value-lt32.false (reads_as (numbers_row Label.unreserved_bandwidth (first 32) refl g.source.registry g.value.now g.source.base.0 Label.bandwidth_element u32 4 refl) (record { taken = ap Octets c.numbers-shown.ensures.covers; laid = c.numbers-shown.ensures.laid }))

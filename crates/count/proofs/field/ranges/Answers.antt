@@ -8,7 +8,7 @@ use lib.Seq.{length-take-le}
 use borrow.Author.Tests.{le-leb, lt-leb}
 use Rattle.meaning.specs.Frame.{range_length}
 use Rattle.meaning.specs.FrameLaws.{range_fits, range_eight}
-use Rattle.fields.specs.ElementLaws.{range_size}
+use Rattle.fields.specs.ElementLaws.{range_size_lem}
 use Rattle.count.specs.Counting.{counting_start, counting_step}
 use Rattle.count.specs.LastCount.{ranges_counted}
 use Rattle.count.proofs.field.ranges.Goals as goal
@@ -26,7 +26,7 @@ loop-length-preserved c =
     let is = sym c.loop-length.invariant.1 in
     let e : ListN.length (take n (drop i s)) ≡ n = length-take-le n (drop i s) (omega (arith, length-drop i s)) in
     let eight : 8 ≤ n = omega (arith, is, range_eight (drop i s) (omega arith)) in (
-      λ registry. counting_step range_fits n 3 (c.loop-length.invariant.0 registry) is (omega arith) (λ at. range_size registry at (take n (drop i s)) (omega arith)) refl,
+      λ registry. counting_step range_fits n 3 (c.loop-length.invariant.0 registry) is (omega arith) (λ at. range_size_lem registry at (take n (drop i s)) (omega arith)) refl,
       c.range_length-length-in-loop-length.ensures,
       omega (arith, c.range_length-length-in-loop-length.ensures, range_fits (drop (i + n) s), length-drop (i + n) s),
       omega arith,

@@ -7,7 +7,7 @@ use lib.ListN.{take, drop, length-drop}
 use lib.Seq.{length-take-le}
 use mathlib.Core.Path.{◌≡◌, refl, sym, ◌∙◌}
 use Rattle.meaning.specs.FrameLaws.{range_fits, range_eight}
-use Rattle.fields.specs.ElementLaws.{range_size}
+use Rattle.fields.specs.ElementLaws.{range_size_lem}
 use Rattle.fields.specs.Cutting.{cutting_start, cutting_step, cutting_room, cutting_past, cutting_end}
 use Rattle.fields.proofs.array.ranges.Goals as goal
 
@@ -23,7 +23,7 @@ range-next-requires c =
     let e : ListN.length (take n (drop i s)) ≡ n = length-take-le n (drop i s) (omega (arith, length-drop i s)) in
     let eight : 8 ≤ ListN.length (take n (drop i s)) = omega (arith, e, range_eight (drop i s) (omega arith)) in
     let room = cutting_room range_fits 40 g.source.registry n c.requires c.loop-length.invariant.0 (sym c.loop-length.invariant.1) (omega arith) in
-    rw (add-sub_cancel_left i n) (eight, omega (arith, e), rw (range_size g.source.registry (g.source.base.0 + i) (take n (drop i s)) eight) at room)
+    rw (add-sub_cancel_left i n) (eight, omega (arith, e), rw (range_size_lem g.source.registry (g.source.base.0 + i) (take n (drop i s)) eight) at room)
 
 pub loop-length-preserved : goal.loop-length-preserved
 loop-length-preserved c =

@@ -10,7 +10,7 @@ use Rattle.neighbor.proofs.alone.alone.Goals as goal
 
 pub returns-in-3 : goal.returns-in-3
 unfolding usual fields_of table least_in fields_in
-returns-in-3 c = let g = c.args in part_alone 3 g.kind g.value.now Label.adminGroup u32 4 c.in-3.is refl refl (omega arith) c.number32_alone.ensures
+returns-in-3 c = let g = c.args in part_alone 3 g.kind g.value.now Label.admin_group u32 4 c.in-3.is refl refl (omega arith) c.number32_alone.ensures
 
 pub returns-in-4 : goal.returns-in-4
 returns-in-4 c = never_alone _ _ c.not_alone.ensures
@@ -25,17 +25,17 @@ pub returns-in-8 : goal.returns-in-8
 unfolding usual fields_of table least_in fields_in
 returns-in-8 c =
     let g = c.args in
-    part_alone 8 g.kind g.value.now Label.ipv4NeighborAddress ipv4 4 c.in-8.is refl refl (omega arith) (octets_told 4 g.value.now c.octets_alone-in-8.ensures)
+    part_alone 8 g.kind g.value.now Label.ipv4_neighbor_address ipv4 4 c.in-8.is refl refl (omega arith) (octets_told 4 g.value.now c.octets_alone-in-8.ensures)
 
 pub returns-in-9 : goal.returns-in-9
 unfolding usual fields_of table least_in fields_in
-returns-in-9 c = let g = c.args in part_alone 9 g.kind g.value.now Label.maxBandwidth u32 4 c.in-9.is refl refl (omega arith) c.number32_alone-in-9.ensures
+returns-in-9 c = let g = c.args in part_alone 9 g.kind g.value.now Label.max_bandwidth u32 4 c.in-9.is refl refl (omega arith) c.number32_alone-in-9.ensures
 
 pub returns-in-10 : goal.returns-in-10
 unfolding usual fields_of table least_in fields_in
 returns-in-10 c =
     let g = c.args in
-    part_alone 10 g.kind g.value.now Label.maxReservableBandwidth u32 4 c.in-10.is refl refl (omega arith) c.number32_alone-in-10.ensures
+    part_alone 10 g.kind g.value.now Label.max_reservable_bandwidth u32 4 c.in-10.is refl refl (omega arith) c.number32_alone-in-10.ensures
 
 pub returns-in-11 : goal.returns-in-11
 returns-in-11 c = never_alone _ _ c.not_alone-in-11.ensures
@@ -44,19 +44,19 @@ pub returns-in-12 : goal.returns-in-12
 unfolding usual fields_of table least_in fields_in
 returns-in-12 c =
     let g = c.args in
-    part_alone 12 g.kind g.value.now Label.ipv6InterfaceAddress ipv6 16 c.in-12.is refl refl (omega arith) (octets_told 16 g.value.now c.octets_alone-in-12.ensures)
+    part_alone 12 g.kind g.value.now Label.ipv6_interface_address ipv6 16 c.in-12.is refl refl (omega arith) (octets_told 16 g.value.now c.octets_alone-in-12.ensures)
 
 pub returns-in-13 : goal.returns-in-13
 unfolding usual fields_of table least_in fields_in
 returns-in-13 c =
     let g = c.args in
-    part_alone 13 g.kind g.value.now Label.ipv6NeighborAddress ipv6 16 c.in-13.is refl refl (omega arith) (octets_told 16 g.value.now c.octets_alone-in-13.ensures)
+    part_alone 13 g.kind g.value.now Label.ipv6_neighbor_address ipv6 16 c.in-13.is refl refl (omega arith) (octets_told 16 g.value.now c.octets_alone-in-13.ensures)
 
 pub returns-in-18 : goal.returns-in-18
 unfolding usual fields_of table least_in fields_in
 returns-in-18 c =
     let g = c.args in
-    part_alone 18 g.kind g.value.now Label.teDefaultMetric u32 3 c.in-18.is refl refl (omega arith) c.number24_alone.ensures
+    part_alone 18 g.kind g.value.now Label.te_default_metric u32 3 c.in-18.is refl refl (omega arith) c.number24_alone.ensures
 
 pub returns-in-31 : goal.returns-in-31
 returns-in-31 c = never_alone _ _ c.not_alone-in-31.ensures
