@@ -11,7 +11,7 @@ use Rattle.tape.specs.LoadLaws.{load_append, load_with_used, used_with_used}
 use Rattle.tape.specs.Forest.{Forest, size, ◌⧺◌, flat, depth, Formed}
 use Rattle.tape.specs.ForestLaws.{flat-⧺, depth-⧺, formed-⧺}
 use Rattle.tape.specs.Laid.{Laid}
-use Rattle.tape.specs.LaidLaws.{laid_length, laid_load, laid_other, laid_before}
+use Rattle.tape.proofs.LaidLaws.{laid_length, laid_load, laid_other, laid_before}
 use Rattle.calls.specs.Nest.{trees, nest_test}
 use Rattle.calls.specs.WellNested.{WellNested}
 use Rattle.calls.specs.SplitLaws.{trees_split, split_trees, size_held}

@@ -5,8 +5,8 @@ use Rattle.tape.specs.Record.{container_record}
 use Rattle.tape.specs.Tape.{room, put_at}
 use Rattle.tape.specs.Forest.{Forest, size}
 use Rattle.tape.specs.Laid.{Laid, Room, RoomFor}
-use Rattle.tape.specs.LaidLaws.{laid_node, laid_length}
-use Rattle.tape.specs.Laying.{Laying, laying_start, laying_step, laying_end, laying_room, laying_inside}
+use Rattle.tape.proofs.LaidLaws.{laid_node, laid_length}
+use Rattle.tape.proofs.Laying.{Laying, laying_start, laying_step, laying_end, laying_room, laying_inside}
 use Rattle.meaning.specs.Tree.{content}
 use Rattle.meaning.specs.Cut.{Measure, pieces, total, each}
 use Rattle.meaning.specs.PlaceLaws.{left, more, left_step, more_step, left_end, more_end}

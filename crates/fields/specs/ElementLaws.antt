@@ -8,7 +8,7 @@ use Rattle.tape.specs.Record.{container_record}
 use Rattle.tape.specs.Tape.{put_at}
 use Rattle.tape.specs.Forest.{none, leaf, size, ◌⧺◌}
 use Rattle.tape.specs.Laid.{Laid}
-use Rattle.tape.specs.LaidLaws.{laid_then, laid_node}
+use Rattle.tape.proofs.LaidLaws.{laid_then, laid_node}
 use Rattle.meaning.specs.Label
 use Rattle.meaning.specs.Tree.{content}
 use Rattle.meaning.specs.Field.{msds, ranges}

@@ -18,7 +18,6 @@ pub mod ValueLaws
 pub mod Area
 pub mod AreaLaws
 pub mod AreaCall
-pub mod AreaCallLaws
 pub mod Dump
 pub mod DumpLaws
 pub mod Examples

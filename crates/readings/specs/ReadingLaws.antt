@@ -3,7 +3,7 @@ use Rattle.std.specs.Prelude.{◌≡◌, refl, Bool, true, false, cond, List, []
 use Rattle.std.proofs.Common.{ap, ◌∙◌, le-leb}
 use Rattle.std.proofs.lemmas.Bool.{lt-leb}
 use Rattle.tape.specs.Laid.{Room}
-use Rattle.tape.specs.LaidLaws.{laid_none}
+use Rattle.tape.proofs.LaidLaws.{laid_none}
 use Rattle.tape.specs.declared.Position.{Position}
 use Rattle.meaning.specs.Field.{Field}
 use Rattle.meaning.specs.Table.{usual, table}

@@ -17,7 +17,7 @@ use Rattle.tape.specs.Laid.{Room}
 use Rattle.meaning.specs.Frame.{covered}
 use Rattle.meaning.specs.Value.{Walk}
 use Rattle.meaning.specs.AreaCall.{appended, shown, fitted, area_call}
-use Rattle.meaning.specs.AreaCallLaws.{accepted, fitted_5, fitted_0}
+use Rattle.meaning.proofs.AreaCallLaws.{accepted, fitted_5, fitted_0}
 use Rattle.fields.specs.Shows.{Shows}
 use Rattle.fields.specs.declared.Shown.{Shown}
 use Rattle.subtlv.specs.Checks.{Checked, done}

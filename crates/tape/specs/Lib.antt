@@ -12,5 +12,3 @@ pub mod ForestLaws
 pub mod Near
 pub mod NearLaws
 pub mod Laid
-pub mod LaidLaws
-pub mod Laying

@@ -31,7 +31,7 @@ use Rattle.meaning.specs.Value.{Walk}
 use Rattle.meaning.specs.Table.{usual}
 use Rattle.meaning.specs.Area.{walked, pushed}
 use Rattle.meaning.specs.AreaCall.{longest, furthest, appended, shown, fitted, call_in, area_call}
-use Rattle.meaning.specs.AreaCallLaws.{number_low, appended_load, appended_used}
+use Rattle.meaning.proofs.AreaCallLaws.{number_low, appended_load, appended_used}
 use Rattle.theorems.specs.Nearby.{Nearby}
 use Rattle.theorems.specs.NearbyLaws.{usual_nearby}
 use Rattle.theorems.specs.Entries.{leave, show}

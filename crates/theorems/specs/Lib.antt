@@ -4,11 +4,9 @@
 pub mod Form
 pub mod FormLaws
 pub mod Entries
-pub mod EntriesLaws
 pub mod Nearby
 pub mod NearbyLaws
 pub mod OneEntry
-pub mod OneEntryLaws
 pub mod TwoAreas
 -- what is asked of a reading
 pub mod Plan
@@ -38,6 +36,5 @@ pub mod Layouts
 pub mod LayoutsLaws
 -- every call answers by the lines of the table
 pub mod Answers
-pub mod AnswersLaws
 -- the calls, by the table's reading
 pub mod TheCalls

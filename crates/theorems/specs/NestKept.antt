@@ -13,7 +13,7 @@ use Rattle.meaning.specs.Table.{usual}
 use Rattle.meaning.specs.Value.{Walk}
 use Rattle.meaning.specs.Area.{walked, pushed}
 use Rattle.meaning.specs.AreaCall.{appended, area_call, walk_call, push_call}
-use Rattle.meaning.specs.AreaCallLaws.{laid, inside, number_low, call_cases}
+use Rattle.meaning.proofs.AreaCallLaws.{laid, inside, number_low, call_cases}
 use Rattle.theorems.specs.Nearby.{Nearby}
 use Rattle.theorems.specs.NearbyLaws.{usual_nearby}
 use Rattle.theorems.specs.Entries.{leave, show}

@@ -22,7 +22,7 @@ use Rattle.tape.specs.Forest.{Forest, size, flat}
 use Rattle.meaning.specs.Frame.{covered}
 use Rattle.meaning.specs.Value.{Walk}
 use Rattle.meaning.specs.AreaCall.{longest, furthest, appended, shown, fitted, call_in, area_call}
-use Rattle.meaning.specs.AreaCallLaws.{number_low, appended_used, appended_load, appended_other, length_appended}
+use Rattle.meaning.proofs.AreaCallLaws.{number_low, appended_used, appended_load, appended_other, length_appended}
 use Rattle.theorems.specs.Nearby.{Nearby}
 use Rattle.theorems.specs.OldRecords.{Alike, Untouched, Unmoved}
 

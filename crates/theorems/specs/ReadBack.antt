@@ -12,7 +12,7 @@ use Rattle.calls.specs.CallsLaws.{read_0}
 use Rattle.calls.specs.WellNestedLaws.{in_order_laid}
 use Rattle.tape.specs.declared.Record.{Record}
 use Rattle.meaning.specs.AreaCall.{appended}
-use Rattle.meaning.specs.AreaCallLaws.{laid, inside, appended_used, appended_load}
+use Rattle.meaning.proofs.AreaCallLaws.{laid, inside, appended_used, appended_load}
 use Rattle.theorems.specs.EachRecord.{EachRecord, each_record-++, each_record_at}
 use Rattle.theorems.specs.Sound.{Sound}
 use Rattle.theorems.specs.SoundLaws.{fine_readable}

@@ -12,7 +12,7 @@ use Rattle.meaning.specs.Table.{usual}
 use Rattle.meaning.specs.Value.{Walk}
 use Rattle.meaning.specs.Area.{walk_trees, walked, pushed}
 use Rattle.meaning.specs.AreaCall.{appended, area_call, walk_call, push_call}
-use Rattle.meaning.specs.AreaCallLaws.{appended_load, call_cases, call_done}
+use Rattle.meaning.proofs.AreaCallLaws.{appended_load, call_cases, call_done}
 use Rattle.theorems.specs.Nearby.{Nearby}
 use Rattle.theorems.specs.NearbyLaws.{usual_nearby}
 use Rattle.theorems.specs.Entries.{leave, show}

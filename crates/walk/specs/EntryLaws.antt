@@ -8,7 +8,7 @@ use Rattle.tape.specs.Tape.{store}
 use Rattle.tape.specs.Forest.{none, leaf, node, size, ◌⧺◌}
 use Rattle.tape.specs.ForestLaws.{size-⧺}
 use Rattle.tape.specs.Laid.{Laid, Room, RoomFor}
-use Rattle.tape.specs.LaidLaws.{laid_then, laid_container_of_two}
+use Rattle.tape.proofs.LaidLaws.{laid_then, laid_container_of_two}
 use Rattle.meaning.specs.Tree.{content}
 use Rattle.meaning.specs.Table.{usual}
 use Rattle.meaning.specs.Value.{value_trees}

@@ -10,7 +10,7 @@ use Rattle.registry.specs.declared.Registry.TheVariants.{Srv6Sid, Unregistered}
 use Rattle.tape.specs.Forest.{Forest, none, leaf, size, ◌⧺◌}
 use Rattle.tape.specs.ForestLaws.{size-⧺, ⧺-none}
 use Rattle.tape.specs.Laid.{Laid, Room, RoomFor}
-use Rattle.tape.specs.LaidLaws.{laid_then}
+use Rattle.tape.proofs.LaidLaws.{laid_then}
 use Rattle.meaning.specs.Tree.{content}
 use Rattle.meaning.specs.Frame.{covered}
 use Rattle.meaning.specs.PlaceLaws.{part_rest}

@@ -9,8 +9,8 @@ use Rattle.tape.specs.Tape.{put_at}
 use Rattle.tape.specs.Forest.{Forest, size}
 use Rattle.tape.specs.ForestLaws.{size-⧺}
 use Rattle.tape.specs.Laid.{Laid, Room, RoomFor}
-use Rattle.tape.specs.LaidLaws.{laid_none, laid_then}
-use Rattle.tape.specs.Laying.{laying_room, laying_inside}
+use Rattle.tape.proofs.LaidLaws.{laid_none, laid_then}
+use Rattle.tape.proofs.Laying.{laying_room, laying_inside}
 use Rattle.tape.specs.declared.Position.{Position}
 use Rattle.meaning.specs.Tree.{content, raw}
 use Rattle.meaning.specs.Cut.{pieces, each}

@@ -4,7 +4,7 @@ use Rattle.std.proofs.lemmas.List.{length-take-le}
 use Rattle.outcome.specs.declared.Outcome.{Outcome}
 use Rattle.registry.specs.Registry.{registry_of}
 use Rattle.registry.specs.NameCall.{name_call}
-use Rattle.registry.specs.NameCallLaws.{written_inside}
+use Rattle.registry.proofs.NameCallLaws.{written_inside}
 use Rattle.names.proofs.show.Goals as goal
 
 inside : {o : Outcome} (registry t : ℕ) (lent left : List ℕ) → o ≡ (name_call registry t lent).outcome → length left ≡ length lent → o.written ≤ length left

@@ -1,5 +1,5 @@
 -- Four numbers, one after the other.
-use Rattle.tape.specs.LaidLaws.{laid_then}
+use Rattle.tape.proofs.LaidLaws.{laid_then}
 use Rattle.neighbor.proofs.end_x_head.Goals as goal
 
 pub returns : goal.returns

@@ -3,7 +3,7 @@ use Rattle.readings.specs.Plain.{plain_room}
 use mathlib.Core.Path.{refl, ap}
 use native.Mathlib.Omega.{arith}
 use Rattle.tape.specs.Forest.{◌⧺◌}
-use Rattle.tape.specs.LaidLaws.{laid_none, laid_then}
+use Rattle.tape.proofs.LaidLaws.{laid_none, laid_then}
 use Rattle.meaning.specs.Table.{table, fields_of, usual}
 use Rattle.meaning.specs.TableLaws.{least_in, fields_in}
 use Rattle.meaning.specs.Label

@@ -2,7 +2,7 @@
 use Rattle.readings.specs.Plain.{plain_room}
 use mathlib.Core.Path.{refl}
 use Rattle.tape.specs.Forest.{◌⧺◌}
-use Rattle.tape.specs.LaidLaws.{laid_then}
+use Rattle.tape.proofs.LaidLaws.{laid_then}
 use Rattle.meaning.specs.Table.{table, fields_of, usual}
 use Rattle.meaning.specs.TableLaws.{least_in, fields_in}
 use Rattle.meaning.specs.Value.{field_end, field_trees, fields_trees, taken}

@@ -1,6 +1,6 @@
 -- No octets, or a leaf over them.
 use borrow.Author.Tests.{eq-eqb, ne_eqb}
-use Rattle.tape.specs.LaidLaws.{laid_none}
+use Rattle.tape.proofs.LaidLaws.{laid_none}
 use Rattle.neighbor.proofs.system_id.Goals as goal
 
 pub returns-then-width-eq0 : goal.returns-then-width-eq0

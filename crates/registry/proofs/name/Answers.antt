@@ -1,6 +1,6 @@
 -- The registry of the number, or refusal 1.
 use mathlib.Core.Path.{sym, ◌∙◌}
-use Rattle.registry.specs.NameCallLaws.{unknown_refused, known_named}
+use Rattle.registry.proofs.NameCallLaws.{unknown_refused, known_named}
 use Rattle.registry.proofs.name.Goals as goal
 
 pub returns-in_default : goal.returns-in_default

@@ -2,7 +2,7 @@
 use mathlib.Core.Path.{refl, sym, ◌∙◌}
 use native.Mathlib.Omega.{arith}
 use borrow.Author.Tests.{not-true, not-false}
-use Rattle.meaning.specs.AreaCallLaws.{call_2, call_3, call_4}
+use Rattle.meaning.proofs.AreaCallLaws.{call_2, call_3, call_4}
 use Rattle.subtlv.proofs.check.Goals as goal
 
 pub returns-then-n-gt65535 : goal.returns-then-n-gt65535

@@ -11,7 +11,7 @@ use Rattle.tape.specs.Forest.{size}
 use Rattle.tape.specs.LayoutLaws.{room_few}
 use Rattle.meaning.specs.Table.{usual}
 use Rattle.meaning.specs.Area.{pushed}
-use Rattle.meaning.specs.AreaCallLaws.{call_unknown, call_known}
+use Rattle.meaning.proofs.AreaCallLaws.{call_unknown, call_known}
 use Rattle.subtlv.specs.CallLaws.{most_pushed, in_order, call_room, call_short, call_made}
 use Rattle.subtlv.proofs.push.Goals.{then-room-area+else-room-needed, else-room-area}
 use Rattle.subtlv.proofs.push.Goals as goal

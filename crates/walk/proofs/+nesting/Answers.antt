@@ -11,7 +11,7 @@ use Rattle.meaning.specs.PlaceLaws.{part_rest}
 use Rattle.walk.specs.EntryLaws.{entry_octets, entry_room, rest_room, head_places, leaf_room, leaf_made}
 use Rattle.tape.specs.Forest.{◌⧺◌}
 use Rattle.tape.specs.ForestLaws.{size-⧺}
-use Rattle.tape.specs.LaidLaws.{laid_then}
+use Rattle.tape.proofs.LaidLaws.{laid_then}
 use Rattle.meaning.specs.Field.{tail, push}
 use Rattle.readings.specs.ReadingLaws.{row_short, of_type}
 use Rattle.readings.specs.Rows.{system_id, end_x_head, end_head, number_at}
@@ -20,7 +20,7 @@ use Rattle.meaning.specs.Table.{table, fields_of, usual}
 use Rattle.meaning.specs.TableLaws.{least_in, fields_in}
 use Rattle.meaning.specs.Value.{field_end, field_trees, fields_trees, taken}
 use Rattle.readings.specs.Reading.{reading_of}
-use Rattle.meaning.specs.AreaCallLaws.{number_low}
+use Rattle.meaning.proofs.AreaCallLaws.{number_low}
 use Rattle.meaning.specs.FrameLaws.{covered_le}
 use Rattle.meaning.specs.Area.{walked}
 use Rattle.meaning.specs.ValueLaws.{tail_bare, tail_overrun}

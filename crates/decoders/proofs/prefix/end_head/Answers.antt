@@ -1,5 +1,5 @@
 -- Two numbers, one after the other.
-use Rattle.tape.specs.LaidLaws.{laid_then}
+use Rattle.tape.proofs.LaidLaws.{laid_then}
 use Rattle.decoders.proofs.prefix.end_head.Goals as goal
 
 pub returns : goal.returns

@@ -4,7 +4,7 @@ use native.Mathlib.Omega.{arith}
 use Prim.Native.Nat.{ℕ, ◌+◌}
 use lib.ListN.{drop, length-drop}
 use Rattle.tape.specs.Forest.{◌⧺◌}
-use Rattle.tape.specs.LaidLaws.{laid_then}
+use Rattle.tape.proofs.LaidLaws.{laid_then}
 use Rattle.meaning.specs.Table.{table, fields_of, usual}
 use Rattle.meaning.specs.TableLaws.{least_in, fields_in}
 use Rattle.meaning.specs.Array.{array_of}

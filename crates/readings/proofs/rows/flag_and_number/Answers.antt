@@ -2,7 +2,7 @@
 use Rattle.tape.specs.Forest.{◌⧺◌}
 use mathlib.Core.Path.{refl}
 use borrow.Author.Tests.{le-leb, lt-leb}
-use Rattle.tape.specs.LaidLaws.{laid_none, laid_then}
+use Rattle.tape.proofs.LaidLaws.{laid_none, laid_then}
 use Rattle.readings.specs.ReadingLaws.{reads_nothing}
 use borrow.Author.Rules.{rules}
 use Rattle.readings.proofs.rows.flag_and_number.Goals as goal

@@ -3,7 +3,7 @@ use Rattle.readings.specs.RowsLaws.{octet_and_sid_size}
 use mathlib.Core.Path.{ap}
 use native.Mathlib.Omega.{arith}
 use borrow.Author.Tests.{le-leb, lt-leb}
-use Rattle.tape.specs.LaidLaws.{laid_none, laid_then}
+use Rattle.tape.proofs.LaidLaws.{laid_none, laid_then}
 use Rattle.meaning.specs.Label
 use Rattle.fields.specs.ShowsLaws.{shown_sid}
 use Rattle.readings.specs.ReadingLaws.{reads_nothing}

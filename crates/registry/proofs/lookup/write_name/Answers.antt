@@ -1,5 +1,5 @@
 -- The name that was found fits, or is refused.
-use Rattle.registry.specs.NameCallLaws.{found_longer, found_fits}
+use Rattle.registry.proofs.NameCallLaws.{found_longer, found_fits}
 use Rattle.registry.proofs.lookup.write_name.Goals as goal
 
 pub returns-then-out-length : goal.returns-then-out-length

@@ -1,7 +1,7 @@
 -- The container with two leaves, and the third leaf.
 use Rattle.tape.specs.NearLaws.{kept_leaf}
 use native.Mathlib.Omega.{arith}
-use Rattle.tape.specs.LaidLaws.{store_room, laid_container_of_leaves}
+use Rattle.tape.proofs.LaidLaws.{store_room, laid_container_of_leaves}
 use Rattle.store.proofs.lay.container_of_leaves.Goals as goal
 
 pub container_of_two-requires : goal.container_of_two-requires

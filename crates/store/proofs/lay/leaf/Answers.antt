@@ -1,6 +1,6 @@
 -- The leaf's record is put.
 use Rattle.tape.specs.NearLaws.{kept_leaf}
-use Rattle.tape.specs.LaidLaws.{laid_leaf}
+use Rattle.tape.proofs.LaidLaws.{laid_leaf}
 use Rattle.store.proofs.lay.leaf.Goals as goal
 
 pub put-requires : goal.put-requires

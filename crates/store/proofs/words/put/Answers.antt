@@ -4,7 +4,7 @@ use native.Mathlib.Omega.{arith}
 use lib.ListN.{length}
 use Rattle.tape.specs.LayoutLaws.{room_low, room_one}
 use Rattle.tape.specs.TapeLaws.{put_inside}
-use Rattle.tape.specs.LaidLaws.{put_room}
+use Rattle.tape.proofs.LaidLaws.{put_room}
 use Rattle.store.proofs.words.put.Goals as goal
 
 pub first_word-b-requires : goal.first_word-b-requires

@@ -1,6 +1,6 @@
 -- Octets are left, or none.
 use Prim.Native.Nat.{◌+◌}
-use Rattle.tape.specs.LaidLaws.{laid_none}
+use Rattle.tape.proofs.LaidLaws.{laid_none}
 use Rattle.meaning.specs.AreaLaws.{raw_none, raw_some}
 use borrow.Author.Rules.{rules}
 use Rattle.walk.proofs.entry.raw.Goals as goal

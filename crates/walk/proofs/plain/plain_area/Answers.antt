@@ -4,7 +4,7 @@ use Prim.Native.Nat.{◌+◌, ◌<◌}
 use native.Mathlib.Omega.{arith}
 use lib.ListN.{length, get_or}
 use Rattle.registry.specs.Registry.{number_of}
-use Rattle.meaning.specs.AreaCallLaws.{number_low}
+use Rattle.meaning.proofs.AreaCallLaws.{number_low}
 use Rattle.fields.specs.Cutting.{cut_off_start, cut_off_inside}
 use Rattle.walk.specs.WalkLaws.{turn_room, turn_made, area_past, walk_made}
 use Rattle.walk.proofs.plain.plain_area.Goals.{else-loop-left-test, then-loop-left-test+then-left-length}

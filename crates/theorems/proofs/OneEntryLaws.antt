@@ -20,11 +20,11 @@ use Rattle.meaning.specs.Tree.{raw}
 use Rattle.meaning.specs.Value.{Walk}
 use Rattle.meaning.specs.Area.{entry_trees, inner_walk}
 use Rattle.meaning.specs.AreaCall.{appended, area_call, walk_call, push_call}
-use Rattle.meaning.specs.AreaCallLaws.{appended_load, call_done}
+use Rattle.meaning.proofs.AreaCallLaws.{appended_load, call_done}
 use Rattle.theorems.specs.Nearby.{Nearby}
 use Rattle.theorems.specs.FormLaws.{same_frame}
 use Rattle.theorems.specs.Entries.{Ending, leave, show, called, beside, Holds, before, own, after, after_at, end_at, EntryByEntry}
-use Rattle.theorems.specs.EntriesLaws.{entry_by_entry}
+use Rattle.theorems.proofs.EntriesLaws.{entry_by_entry}
 use Rattle.theorems.specs.OneEntry.{Two, OneEntry}
 
 -- a run that was accepted

@@ -4,7 +4,7 @@ use Rattle.std.proofs.Common.{sym, ap, ◌∙◌, arith}
 use Rattle.tape.specs.Forest.{Forest, none, size, ◌⧺◌}
 use Rattle.tape.specs.ForestLaws.{⧺-none, ⧺-assoc, size-⧺}
 use Rattle.tape.specs.Laid.{Laid}
-use Rattle.tape.specs.LaidLaws.{laid_none, laid_then}
+use Rattle.tape.proofs.LaidLaws.{laid_none, laid_then}
 
 -- left i is what the octets from i on become, and more i how many of them are taken
 pub record Laying (slim : Bool) (left : ℕ → Forest) (more : ℕ → ℕ) (t u : List ℕ) (at i next : ℕ) : Type 0 where

@@ -21,7 +21,7 @@ use Rattle.tape.specs.TapeLaws.{length_store}
 use Rattle.tape.specs.Forest.{Forest, size, flat}
 use Rattle.tape.specs.Near.{Near}
 use Rattle.tape.specs.Laid.{Laid}
-use Rattle.tape.specs.LaidLaws.{store_room, laid_length, laid_load, laid_other}
+use Rattle.tape.proofs.LaidLaws.{store_room, laid_length, laid_load, laid_other}
 use Rattle.tape.specs.LoadLaws.{load_with_used, used_with_used}
 use Rattle.meaning.specs.Frame.{covered}
 use Rattle.meaning.specs.Value.{Walk}

@@ -1,0 +1,2 @@
+pub mod AreaCallLaws
+pub mod Examples

@@ -1,0 +1,3 @@
+pub mod AnswersLaws
+pub mod EntriesLaws
+pub mod OneEntryLaws
