@@ -10,7 +10,7 @@ use Rattle.meaning.specs.Frame.{covered}
 use Rattle.meaning.specs.Tail.{inner}
 use Rattle.meaning.specs.Table.{usual}
 use Rattle.meaning.specs.Area.{inner_walk}
-use Rattle.meaning.specs.ValueLaws.{tail_bare, tail_overrun, tail_inner}
+use Rattle.meaning.proofs.ValueLaws.{tail_bare, tail_overrun, tail_inner}
 use Rattle.count.specs.Records.{rest, last_records, Walks}
 use Rattle.count.specs.RowCount.{rest_behind}
 use Rattle.count.specs.declared.Counted.{Counted}

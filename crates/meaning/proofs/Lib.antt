@@ -1,2 +1,3 @@
 pub mod AreaCallLaws
 pub mod Examples
+pub mod ValueLaws

@@ -14,7 +14,6 @@ pub mod SidLaws
 pub mod Array
 pub mod Tail
 pub mod Value
-pub mod ValueLaws
 pub mod Area
 pub mod AreaLaws
 pub mod AreaCall

@@ -19,7 +19,7 @@ use Rattle.meaning.specs.Tail.{inner}
 use Rattle.meaning.specs.Table.{usual, table, fields_of}
 use Rattle.meaning.specs.TableLaws.{least_in, fields_in, OneRow}
 use Rattle.meaning.specs.Value.{field_end, field_trees, fields_trees, taken}
-use Rattle.meaning.specs.ValueLaws.{tail_inner, Alone, Inner}
+use Rattle.meaning.proofs.ValueLaws.{tail_inner, Alone, Inner}
 use Rattle.meaning.specs.Area.{walked, pushed}
 use Rattle.fields.specs.Shows.{Shows}
 use Rattle.fields.specs.declared.Shown.{Shown}

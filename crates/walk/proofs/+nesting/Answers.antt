@@ -23,7 +23,7 @@ use Rattle.readings.specs.Reading.{reading_of}
 use Rattle.meaning.proofs.AreaCallLaws.{number_low}
 use Rattle.meaning.specs.FrameLaws.{covered_le}
 use Rattle.meaning.specs.Area.{walked}
-use Rattle.meaning.specs.ValueLaws.{tail_bare, tail_overrun}
+use Rattle.meaning.proofs.ValueLaws.{tail_bare, tail_overrun}
 use Rattle.walk.proofs.+nesting.Goals.{neighbor_value-in_default-via-then-kind-lt43, neighbor_value-in_default-via-else-kind-lt43+else-kind-lt45, neighbor_area-else-loop-left-test, neighbor_area-then-loop-left-test+then-left-length, prefix_area-else-loop-left-test, prefix_area-then-loop-left-test+then-left-length, router_area-else-loop-left-test, router_area-then-loop-left-test+then-left-length}
 use Rattle.walk.proofs.+nesting.Goals as goal
 
