@@ -65,12 +65,22 @@ pub fn listed(page: &str, column: usize) -> Vec<Entry<'_>> {
         quotes(cell).map(move |quote| {
             let (file, items) = quote.split_once(": ").unwrap_or((quote, ""));
             Entry {
-                file: format!("crates/{name}/specs/{file}.antt"),
+                file: path(name, file),
                 items: items.split(", ").filter(|item| !item.is_empty()).collect(),
             }
         })
     });
     listed.collect()
+}
+
+/// The path of a crate's file as the list names it: without its folder in `specs/`, with it in `proofs/`.
+fn path(name: &str, file: &str) -> String {
+    let folder = if file.starts_with("proofs/") {
+        ""
+    } else {
+        "specs/"
+    };
+    format!("crates/{name}/{folder}{file}.antt")
 }
 
 /// What is needed to believe the contracts, and to know what the theorems say.

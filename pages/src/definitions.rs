@@ -1,4 +1,4 @@
-//! The definitions and theorems of `specs/`, and what each speaks of.
+//! The definitions and theorems of `specs/` and of the files right in `proofs/`, and what each speaks of.
 
 use std::collections::{BTreeMap, BTreeSet};
 
@@ -40,7 +40,7 @@ impl Definitions {
     /// Those of all crates.
     pub fn of(tree: &Tree) -> Self {
         let files = tree.texts("crates/", ".antt");
-        let files = files.filter(|(path, _)| path.contains("/specs/"));
+        let files = files.filter(|(path, _)| states(path));
         let files = files.map(|(path, text)| (path.into(), file(text)));
         Self(files.collect())
     }
@@ -194,20 +194,29 @@ fn is_import(line: &str) -> bool {
     line.starts_with("use ") || line.starts_with("mod ")
 }
 
-/// What a line brings in of our definitions: `use Rattle.CRATE.specs.FILE.{a, b as c}`, with or
-/// without the names.
+/// What a line brings in of our definitions: `use Rattle.CRATE.specs.FILE.{a, b as c}`, or of
+/// `proofs`, with or without the names.
 fn using(line: &str) -> Option<Use> {
     let (_, path) = line.split_once("use Rattle.")?;
-    let (of, inside) = path.trim_end_matches([';', '}']).split_once(".specs.")?;
+    let path = path.trim_end_matches([';', '}']);
+    let split = |part| Some((part, path.split_once(&format!(".{part}."))?));
+    let (part, (of, inside)) = split("specs").or_else(|| split("proofs"))?;
     let (module, list) = inside.split_once(".{").unwrap_or((inside, ""));
     let module = module.replace('.', "/");
     let names = list.split(", ").filter(|name| !name.is_empty());
     let names = names.map(|name| name.split_once(" as ").unwrap_or((name, name)));
     let names = names.map(|(name, known)| (name.into(), known.into()));
     Some(Use {
-        file: format!("crates/{of}/specs/{module}.antt"),
+        file: format!("crates/{of}/{part}/{module}.antt"),
         names: names.collect(),
     })
+}
+
+/// Whether a file has definitions or theorems: those of `specs/`, and those right in `proofs/`, where
+/// each folder is the proof of a function.
+fn states(path: &str) -> bool {
+    let in_proofs = path.split_once("/proofs/");
+    path.contains("/specs/") || in_proofs.is_some_and(|(_, file)| !file.contains('/'))
 }
 
 /// The items of a file.

@@ -73,7 +73,8 @@ fn anything_else_on_the_list_is_found() {
         .files()
         .flat_map(|file| [(file, 1), (file, 2)])
     {
-        let (of, inside) = file["crates/".len()..].split_once("/specs/").expect(file);
+        let (of, inside) = file["crates/".len()..].split_once('/').expect(file);
+        let inside = inside.trim_start_matches("specs/");
         let items = citable
             .definitions
             .items(file)
