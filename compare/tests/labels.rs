@@ -77,21 +77,9 @@ fn equations(text: &str, function: &str) -> Vec<(String, u64)> {
         .collect()
 }
 
-/// A name of the definitions, such as `te_router_id` or `teRouterId`, in upper case: `TE_ROUTER_ID`.
-fn upper_case(name: &str) -> String {
-    let spaced = |c: char| match c {
-        'A'..='Z' => format!("_{c}"),
-        _ => c.to_uppercase().to_string(),
-    };
-    name.chars().map(spaced).collect()
-}
-
-/// The equations of a function, their names in upper case.
-fn upper_equations(text: &str, function: &str) -> Vec<(String, u64)> {
-    let equations = equations(text, function).into_iter();
-    equations
-        .map(|(name, number)| (upper_case(&name), number))
-        .collect()
+/// A name such as `TE_ROUTER_ID` as the definitions write it, `te_router_id`.
+fn snake_case(name: &str) -> String {
+    name.to_lowercase()
 }
 
 /// Names with their places, counted from 0.
@@ -114,9 +102,9 @@ fn the_labels_are_those_of_the_rust_and_of_document_01() {
 
 #[test]
 fn the_labels_of_the_definitions_are_those_of_the_rust_and_of_document_01() {
-    let expected = numbered(label_names());
+    let expected = numbered(label_names().iter().map(|name| snake_case(name)));
     assert_eq!(expected.len(), 57);
-    assert_eq!(upper_equations(LABEL_DEFINITIONS, "number"), expected);
+    assert_eq!(equations(LABEL_DEFINITIONS, "number"), expected);
 }
 
 #[test]
@@ -126,20 +114,16 @@ fn the_shapes_are_those_of_document_01() {
 
 #[test]
 fn the_shapes_of_the_definitions_are_those_of_document_01() {
-    let expected = numbered(SHAPE_NAMES);
+    let expected = numbered(SHAPE_NAMES.map(snake_case));
     let (leaves, containers) = expected.split_at(7);
-    assert_eq!(upper_equations(SHAPE_DEFINITIONS, "shape_number"), leaves);
-    assert_eq!(
-        upper_equations(SHAPE_DEFINITIONS, "container_number"),
-        containers
-    );
+    assert_eq!(equations(SHAPE_DEFINITIONS, "shape_number"), leaves);
+    assert_eq!(equations(SHAPE_DEFINITIONS, "container_number"), containers);
 }
 
 #[test]
-fn names_of_the_definitions_are_those_of_the_rust_in_another_case() {
-    assert_eq!(upper_case("type"), "TYPE");
-    assert_eq!(upper_case("ipv4_te_router_id"), "IPV4_TE_ROUTER_ID");
-    assert_eq!(upper_case("ipv4TeRouterId"), "IPV4_TE_ROUTER_ID");
+fn names_of_the_definitions_are_in_snake_case() {
+    assert_eq!(snake_case("TYPE"), "type");
+    assert_eq!(snake_case("IPV4_TE_ROUTER_ID"), "ipv4_te_router_id");
 }
 
 #[test]
