@@ -98,18 +98,22 @@ impl Definitions {
     /// What an item speaks of.
     pub fn spoken_of(&self, (file, name): Place<'_>) -> BTreeSet<Place<'_>> {
         let says = self.item(file, name).map_or("", |item| &item.says);
-        let meaning = |word: String| {
-            let own = self.defined(file, &word);
-            own.or_else(|| self.used(&self.0[file].uses, &word))
+        let meaning = |word: &str| {
+            let own = self.defined(file, word);
+            own.or_else(|| self.used(&self.0[file].uses, word))
         };
-        words(says).filter_map(meaning).collect()
+        words(says)
+            .filter_map(|word| with_fields(&word, meaning))
+            .collect()
     }
 
     /// What a text in this source speaks of.
     pub fn spoken_of_in(&self, source: &str, text: &str) -> BTreeSet<Place<'_>> {
         let uses: Vec<_> = source.lines().filter_map(using).collect();
-        let meaning = |word: String| self.used(&uses, &word);
-        words(text).filter_map(meaning).collect()
+        let meaning = |word: &str| self.used(&uses, word);
+        words(text)
+            .filter_map(|word| with_fields(&word, meaning))
+            .collect()
     }
 
     /// These items, what they speak of, and so on.
@@ -148,6 +152,11 @@ impl Item {
     fn constructs(&self, word: &str) -> bool {
         self.constructors.iter().any(|name| name == word)
     }
+}
+
+/// What a word means, or else what stands before its fields, as `zeros` in `zeros.tag`.
+fn with_fields<T>(word: &str, meaning: impl Fn(&str) -> Option<T>) -> Option<T> {
+    meaning(word).or_else(|| meaning(word.split_once('.')?.0))
 }
 
 /// An operator as it is written between others.

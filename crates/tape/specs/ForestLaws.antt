@@ -6,7 +6,7 @@ use Rattle.tape.specs.Record.{leaf_record, container_record, moved}
 use Rattle.tape.specs.Forest.{Forest, none, leaf, node, size, ◌⧺◌, flat, depth, Formed}
 use Rattle.tape.specs.declared.Record.{Record}
 
--- _⧺_
+-- ◌⧺◌
 
 pub ⧺-none : (f : Forest) → f ⧺ none ≡ f
 unfolding ◌⧺◌

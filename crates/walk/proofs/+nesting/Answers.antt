@@ -36,6 +36,8 @@ from_three Binding a b c = omega arith
 from_three Srv6Sid a b c = omega arith
 from_three Unregistered a b c = omega arith
 
+-- area: registry by registry.
+
 pub area-neighbor_area-requires : goal.area-neighbor_area-requires
 area-neighbor_area-requires t c =
     (omega (arith, c.decreases), rw c.in-Neighbor.is at c.requires)
@@ -63,6 +65,8 @@ area-returns-in-RouterCapability t c = rw c.in-RouterCapability.is c.router_area
 
 pub area-returns-in_default : goal.area-returns-in_default
 area-returns-in_default t c = c.plain_area.ensures
+
+-- neighbor_area: each turn lays an entry.
 
 pub neighbor_area-loop-left-init : goal.neighbor_area-loop-left-init
 neighbor_area-loop-left-init t c = cut_off_start _ _ _ _ _ _
@@ -104,6 +108,8 @@ neighbor_area-returns t c =
     let over : length s < 2 + get_or s 1 0 = elim c.loop-left-test.branch [ neighbor_area-else-loop-left-test w ↦ omega arith | neighbor_area-then-loop-left-test+then-left-length w ↦ omega arith ] in
     walk_made 0 g.area.now g.base.0 c.loop-left.invariant c.requires.0 over refl (omega (arith, cut_off_inside c.loop-left.invariant)) c.container.ensures
 
+-- neighbor_entry: one leaf, or the value and the entry around it.
+
 pub neighbor_entry-overflow_add-after : goal.neighbor_entry-overflow_add-after
 neighbor_entry-overflow_add-after t c =
     omega (arith, c.requires.1.position)
@@ -142,6 +148,8 @@ neighbor_entry-returns t c =
     let made = c.of-entry.ensures in
     let whole = (rw (made, part_rest 2 e) at c.complete.ensures) _ (rw (made, part_rest 2 e) at c.neighbor_value-decoded.ensures) in
     rw (entry_octets e c.requires.0) at whole
+
+-- neighbor_value: the types 43 and 44, and all others.
 
 pub neighbor_value-returns-then-n-id : goal.neighbor_value-returns-then-n-id
 neighbor_value-returns-then-n-id t c =
@@ -201,6 +209,8 @@ neighbor_value-returns-else-n-id t c =
 pub neighbor_value-returns-in_default : goal.neighbor_value-returns-in_default
 neighbor_value-returns-in_default t c = c.neighbor.ensures
 
+-- prefix_area: each turn lays an entry.
+
 pub prefix_area-loop-left-init : goal.prefix_area-loop-left-init
 prefix_area-loop-left-init t c = cut_off_start _ _ _ _ _ _
 
@@ -241,6 +251,8 @@ prefix_area-returns t c =
     let over : length s < 2 + get_or s 1 0 = elim c.loop-left-test.branch [ prefix_area-else-loop-left-test w ↦ omega arith | prefix_area-then-loop-left-test+then-left-length w ↦ omega arith ] in
     walk_made 1 g.area.now g.base.0 c.loop-left.invariant c.requires.0 over refl (omega (arith, cut_off_inside c.loop-left.invariant)) c.container.ensures
 
+-- prefix_entry: the value, and the entry around it.
+
 pub prefix_entry-overflow_add-after : goal.prefix_entry-overflow_add-after
 prefix_entry-overflow_add-after t c =
     omega (arith, c.requires.1.position)
@@ -264,6 +276,8 @@ prefix_entry-returns t c =
     let made = c.of-entry.ensures in
     let whole = (rw (made, part_rest 2 e) at c.complete.ensures) _ (rw (made, part_rest 2 e) at c.prefix_value-decoded.ensures) in
     rw (entry_octets e c.requires.0) at whole
+
+-- prefix_value: type 5, and all others.
 
 pub prefix_value-returns-then-n-lt19 : goal.prefix_value-returns-then-n-lt19
 unfolding usual fields_of table least_in fields_in
@@ -302,6 +316,8 @@ prefix_value-returns-else-n-lt19 t c =
 pub prefix_value-returns-in_default : goal.prefix_value-returns-in_default
 prefix_value-returns-in_default t c = c.prefix.ensures
 
+-- push: the walk, and the remainder beside it.
+
 pub push-walk-shown-requires : goal.push-walk-shown-requires
 push-walk-shown-requires t c = let g = c.args in (omega (arith, c.decreases), push_room (number_of g.registry) g.area.now g.base.0 c.requires)
 
@@ -319,6 +335,8 @@ push-returns t c =
     let g = c.args in
     let number = c.number in
     push_made (number_of g.registry) g.area.now g.base.0 number.result number.ensures c.walk-shown.ensures c.raw-next.ensures refl refl
+
+-- router_area: each turn lays an entry.
 
 pub router_area-loop-left-init : goal.router_area-loop-left-init
 router_area-loop-left-init t c = cut_off_start _ _ _ _ _ _
@@ -360,6 +378,8 @@ router_area-returns t c =
     let over : length s < 2 + get_or s 1 0 = elim c.loop-left-test.branch [ router_area-else-loop-left-test w ↦ omega arith | router_area-then-loop-left-test+then-left-length w ↦ omega arith ] in
     walk_made 2 g.area.now g.base.0 c.loop-left.invariant c.requires.0 over refl (omega (arith, cut_off_inside c.loop-left.invariant)) c.container.ensures
 
+-- router_entry: the value, and the entry around it.
+
 pub router_entry-overflow_add-after : goal.router_entry-overflow_add-after
 router_entry-overflow_add-after t c =
     omega (arith, c.requires.1.position)
@@ -383,6 +403,8 @@ router_entry-returns t c =
     let made = c.of-entry.ensures in
     let whole = (rw (made, part_rest 2 e) at c.complete.ensures) _ (rw (made, part_rest 2 e) at c.router_value-decoded.ensures) in
     rw (entry_octets e c.requires.0) at whole
+
+-- router_value: type 25, and all others.
 
 pub router_value-returns-then-n-lt2 : goal.router_value-returns-then-n-lt2
 unfolding usual fields_of table least_in fields_in
@@ -420,6 +442,8 @@ router_value-returns-else-n-lt2 t c =
 
 pub router_value-returns-in_default : goal.router_value-returns-in_default
 router_value-returns-in_default t c = c.router_capability.ensures
+
+-- tail: the SID, and the inner area behind it.
 
 pub tail-sid_octets-after-requires : goal.tail-sid_octets-after-requires
 tail-sid_octets-after-requires t c =
@@ -479,6 +503,8 @@ tail-returns t c =
     let b = g.source.base.0 in
     let r = g.source.registry in
     inner_made r v b g.at c.sid_octets-after.ensures c.if-n-stop.false c.walk-shown.ensures refl refl
+
+-- walk: nothing, or the area by its registry.
 
 pub walk-returns-then-area-eq0 : goal.walk-returns-then-area-eq0
 walk-returns-then-area-eq0 t c = let g = c.args in walk_none (number_of g.registry) g.area.now g.base.0 c.if-area-eq0.true

@@ -1,4 +1,4 @@
--- Each part is that of the law `masked-parts`: whole octets kept, one octet cut, the rest zero.
+-- Each part is that of the law `masked_parts`: whole octets kept, one octet cut, the rest zero.
 use native.Mathlib.Omega.{arith}
 use mathlib.Core.Path.{sym}
 use lib.ListN.{length-set}
