@@ -1,5 +1,4 @@
 -- The call's outcome, as numbers.
-use borrow.Author.Rules.{rules}
 use Rattle.outcome.specs.CallLaws.{gives_numbers}
 use Rattle.capi.proofs.wakkemosut_name.Goals as goal
 

@@ -1,7 +1,6 @@
 -- Yes is 1, no is 0.
 use mathlib.Core.Path.{ap, sym, ◌∙◌}
 use Rattle.calls.specs.Nest.{yes_no}
-use borrow.Author.Rules.{rules}
 use Rattle.capi.proofs.wakkemosut_nest_test.Goals as goal
 
 pub returns-then-nest_test : goal.returns-then-nest_test

@@ -1,6 +1,5 @@
 -- The call's outcome, as numbers.
 use Rattle.outcome.specs.CallLaws.{gives_numbers}
-use borrow.Author.Rules.{rules}
 use Rattle.capi_slim.proofs.wakkemosut_slim_cut_back.Goals as goal
 
 pub returns : goal.returns

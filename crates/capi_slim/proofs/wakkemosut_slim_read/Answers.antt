@@ -1,6 +1,5 @@
 -- The call's outcome and record, as numbers.
 use Rattle.calls.specs.CallsLaws.{gives_record}
-use borrow.Author.Rules.{rules}
 use Rattle.capi_slim.proofs.wakkemosut_slim_read.Goals as goal
 
 pub returns : goal.returns
