@@ -62,7 +62,10 @@ push-shown-requires c =
     let needed = most_pushed (number_of k) g.area.now g.base.0 in
     let left = c.free-room.ensures in
     let fits : size (pushed usual (number_of k) g.area.now g.base.0) ≤ room g.slim g.tape.now - used g.tape.now =
-    elim c.if-room-area.branch [ then-room-area+else-room-needed w ↦ omega (arith, w.pushed_records-needed.ensures g.base.0, w.if-room-needed.false, left) | else-room-area w ↦ omega (arith, w.if-room-area.false, needed, left) ] in
+    elim c.if-room-area.branch [
+      | then-room-area+else-room-needed w ↦ omega (arith, w.pushed_records-needed.ensures g.base.0, w.if-room-needed.false, left)
+      | else-room-area w ↦ omega (arith, w.if-room-area.false, needed, left)
+    ] in
     call_room (pushed usual) k g.area.now g.base.0 c.check-answer.ensures c.if-answer-ne-DONE.false (omega (arith, room_few g.slim (length g.tape.now))) fits c.used-at.ensures
 
 pub count_in-requires : goal.count_in-requires
@@ -79,6 +82,9 @@ returns c =
     let needed = most_pushed (number_of k) g.area.now g.base.0 in
     let left = c.free-room.ensures in
     let fits : size (pushed usual (number_of k) g.area.now g.base.0) ≤ room g.slim g.tape.now - used g.tape.now =
-    elim c.if-room-area.branch [ then-room-area+else-room-needed w ↦ omega (arith, w.pushed_records-needed.ensures g.base.0, w.if-room-needed.false, left) | else-room-area w ↦ omega (arith, w.if-room-area.false, needed, left) ] in
+    elim c.if-room-area.branch [
+      | then-room-area+else-room-needed w ↦ omega (arith, w.pushed_records-needed.ensures g.base.0, w.if-room-needed.false, left)
+      | else-room-area w ↦ omega (arith, w.if-room-area.false, needed, left)
+    ] in
     gives_as (call_known g.slim (pushed usual) g.registry g.area.now g.base.0 g.tape.now (sym c.of.ensures ∙ c.in-Known.is))
     (call_made (pushed usual) k g.area.now g.base.0 c.check-answer.ensures c.if-answer-ne-DONE.false fits c.used-at.ensures c.push-shown.ensures c.count_in.ensures)

@@ -62,7 +62,10 @@ walk-shown-requires c =
     let needed = most_walked (number_of k) g.area.now g.base.0 in
     let left = c.free-room.ensures in
     let fits : size (walked usual (number_of k) g.area.now g.base.0) ≤ room g.slim g.tape.now - used g.tape.now =
-    elim c.if-room-area.branch [ then-room-area+else-room-needed w ↦ omega (arith, w.walked_records-needed.ensures g.base.0, w.if-room-needed.false, left) | else-room-area w ↦ omega (arith, w.if-room-area.false, needed, left) ] in
+    elim c.if-room-area.branch [
+      | then-room-area+else-room-needed w ↦ omega (arith, w.walked_records-needed.ensures g.base.0, w.if-room-needed.false, left)
+      | else-room-area w ↦ omega (arith, w.if-room-area.false, needed, left)
+    ] in
     call_room (walked usual) k g.area.now g.base.0 c.check-answer.ensures c.if-answer-ne-DONE.false (omega (arith, room_few g.slim (length g.tape.now))) fits c.used-at.ensures
 
 pub count_in-requires : goal.count_in-requires
@@ -79,6 +82,9 @@ returns c =
     let needed = most_walked (number_of k) g.area.now g.base.0 in
     let left = c.free-room.ensures in
     let fits : size (walked usual (number_of k) g.area.now g.base.0) ≤ room g.slim g.tape.now - used g.tape.now =
-    elim c.if-room-area.branch [ then-room-area+else-room-needed w ↦ omega (arith, w.walked_records-needed.ensures g.base.0, w.if-room-needed.false, left) | else-room-area w ↦ omega (arith, w.if-room-area.false, needed, left) ] in
+    elim c.if-room-area.branch [
+      | then-room-area+else-room-needed w ↦ omega (arith, w.walked_records-needed.ensures g.base.0, w.if-room-needed.false, left)
+      | else-room-area w ↦ omega (arith, w.if-room-area.false, needed, left)
+    ] in
     gives_as (call_known g.slim (walked usual) g.registry g.area.now g.base.0 g.tape.now (sym c.of.ensures ∙ c.in-Known.is))
     (call_made (walked usual) k g.area.now g.base.0 c.check-answer.ensures c.if-answer-ne-DONE.false fits c.used-at.ensures c.walk-shown.ensures c.count_in.ensures)

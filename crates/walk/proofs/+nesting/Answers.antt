@@ -24,7 +24,10 @@ use Rattle.meaning.proofs.AreaCallLaws.{number_low}
 use Rattle.meaning.specs.FrameLaws.{covered_le}
 use Rattle.meaning.specs.Area.{walked}
 use Rattle.meaning.proofs.ValueLaws.{tail_bare, tail_overrun}
-use Rattle.walk.proofs.+nesting.Goals.{neighbor_value-in_default-via-then-kind-lt43, neighbor_value-in_default-via-else-kind-lt43+else-kind-lt45, neighbor_area-else-loop-left-test, neighbor_area-then-loop-left-test+then-left-length, prefix_area-else-loop-left-test, prefix_area-then-loop-left-test+then-left-length, router_area-else-loop-left-test, router_area-then-loop-left-test+then-left-length}
+use Rattle.walk.proofs.+nesting.Goals.{neighbor_value-in_default-via-then-kind-lt43, neighbor_value-in_default-via-else-kind-lt43+else-kind-lt45}
+use Rattle.walk.proofs.+nesting.Goals.{neighbor_area-else-loop-left-test, neighbor_area-then-loop-left-test+then-left-length}
+use Rattle.walk.proofs.+nesting.Goals.{prefix_area-else-loop-left-test, prefix_area-then-loop-left-test+then-left-length}
+use Rattle.walk.proofs.+nesting.Goals.{router_area-else-loop-left-test, router_area-then-loop-left-test+then-left-length}
 use Rattle.walk.proofs.+nesting.Goals as goal
 
 -- the registries that are left
@@ -194,7 +197,11 @@ neighbor_value-tail-requires t c =
 
 pub neighbor_value-neighbor-requires : goal.neighbor_value-neighbor-requires
 neighbor_value-neighbor-requires t c =
-    let not : (k : ℕ) → 43 ≤ k → k < 45 → c.args.kind ≡ k → ⊥ = λ k from below is. elim c.in_default.branch [ neighbor_value-in_default-via-then-kind-lt43 w ↦ omega arith | neighbor_value-in_default-via-else-kind-lt43+else-kind-lt45 w ↦ omega arith ] in
+    let not : (k : ℕ) → 43 ≤ k → k < 45 → c.args.kind ≡ k → ⊥ = λ k from below is.
+    elim c.in_default.branch [
+      | neighbor_value-in_default-via-then-kind-lt43 w ↦ omega arith
+      | neighbor_value-in_default-via-else-kind-lt43+else-kind-lt45 w ↦ omega arith
+    ] in
     (not 43 (omega arith) (omega arith), not 44 (omega arith) (omega arith), c.requires)
 
 pub neighbor_value-returns-else-n-id : goal.neighbor_value-returns-else-n-id

@@ -23,7 +23,15 @@ pub overflow_add-length : goal.overflow_add-length
 overflow_add-length c = omega (arith, c.type_inv.octets (c.args.at + 4))
 
 pub returns-then-left-length : goal.returns-then-left-length
-returns-then-left-length c = sym (range_over _ _ c.requires c.if-octets-at-ne1.false (elim c.if-width-ne3.branch [ then-width-ne3+else-width-ne4 w ↦ inr w.if-width-ne4.false | else-width-ne3 w ↦ inl w.if-width-ne3.false ]) (omega arith))
+returns-then-left-length c =
+    sym
+    (range_over _ _ c.requires c.if-octets-at-ne1.false
+    (elim c.if-width-ne3.branch [ then-width-ne3+else-width-ne4 w ↦ inr w.if-width-ne4.false | else-width-ne3 w ↦ inl w.if-width-ne3.false ])
+    (omega arith))
 
 pub returns-else-left-length : goal.returns-else-left-length
-returns-else-left-length c = sym (range_here _ _ c.requires c.if-octets-at-ne1.false (elim c.if-width-ne3.branch [ then-width-ne3+else-width-ne4 w ↦ inr w.if-width-ne4.false | else-width-ne3 w ↦ inl w.if-width-ne3.false ]) (omega arith))
+returns-else-left-length c =
+    sym
+    (range_here _ _ c.requires c.if-octets-at-ne1.false
+    (elim c.if-width-ne3.branch [ then-width-ne3+else-width-ne4 w ↦ inr w.if-width-ne4.false | else-width-ne3 w ↦ inl w.if-width-ne3.false ])
+    (omega arith))
