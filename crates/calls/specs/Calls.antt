@@ -1,13 +1,16 @@
 -- The calls clear, cut back and read (document 01, 'Numbers a call gives back'), each from what it was lent.
-use Rattle.std.specs.Prelude.{◌≡◌, Bool, true, ◌&&◌, cond, List, [], ◌∷◌, ℕ, suc, ◌*◌, leb, ltb, length}
+use Rattle.std.specs.Prelude.{◌≡◌, Bool, true, false, ◌&&◌, cond, List, [], ◌∷◌, ℕ, suc, ◌*◌, leb, ltb, length, Result, Ok, Err}
 use Rattle.std.proofs.lemmas.List.Edits.{sets}
-use Rattle.outcome.specs.Call.{After, done, refused, refusal, finished, numbers_of}
+use Rattle.outcome.specs.Call.{Outcome, After, done, refused, refusal, finished, numbers_of}
+use Rattle.outcome.specs.Told.{told}
+use Rattle.outcome.specs.declared.Refusal.{Refusal}
+use Rattle.outcome.specs.declared.Refusal.TheVariants.{NoTape}
+use Rattle.tape.specs.declared.Position.{Position}
 use Rattle.calls.specs.Limits.{last_label, last_shape, last_registry}
 use Rattle.tape.specs.Record.{label_of, shape_of, zeros, words}
 use Rattle.tape.specs.Layout.{width}
 use Rattle.tape.specs.Tape.{used, headed, with_used, record_at, load}
 use Rattle.tape.specs.declared.Record.{Record}
-use Rattle.calls.specs.declared.Reading.{Reading}
 
 -- clear
 
@@ -18,6 +21,11 @@ cleared slim t = sets t 0 (0 ∷ 4 ∷ width slim ∷ 0 ∷ [])
 -- 4 only under 4 words
 unfoldable pub clear_call : Bool → List ℕ → After
 clear_call slim t = cond (leb 4 (length t)) (finished (cleared slim t)) (refusal 4 t)
+
+-- the count of records, where the header is in order, and refusal 4 where it is not
+abbrev pub Counted : Bool → List ℕ → Result Position Refusal → Type 0
+Counted slim t (Ok n) = (headed slim t ≡ true) × (n.0 ≡ used t)
+Counted slim t (Err e) = (headed slim t ≡ false) × (e ≡ NoTape)
 
 -- cut back
 
@@ -42,6 +50,11 @@ cut_back_call slim t mark =
 unfoldable pub readable : Record → Bool
 readable r = leb (label_of r) last_label && (leb (shape_of r) last_shape && (ltb r.tag (65536 * suc last_registry) && leb r.start.0 r.end.0))
 
+-- what read gives: the outcome, and the record or six zeros
+pub record Reading : Type 0 where
+  pub outcome : Outcome
+  pub «record» : Record
+
 -- what a refused read gives: a record of six zeros
 abbrev pub no_record : ℕ → Reading
 no_record answer = record { outcome = refused answer; «record» = zeros }
@@ -55,6 +68,11 @@ read_call slim t at =
     (no_record 8))
     (no_record 6))
     (no_record 4)
+
+-- what the code's read tells: the record, or the refusal and six zeros
+abbrev pub read_told : Result Record Refusal → Reading
+read_told (Ok r) = record { outcome = done; «record» = r }
+read_told (Err e) = record { outcome = told (Err e); «record» = zeros }
 
 -- the contract of read over the C boundary, where numbers and record are written to places that are lent for them
 pub record GivesRecord (meant : Reading) (numbers words' : List ℕ) : Type 0 where

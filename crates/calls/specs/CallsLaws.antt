@@ -1,21 +1,26 @@
 -- The calls clear, cut back and read, case by case: what each gives where which test holds.
-use Rattle.std.specs.Prelude.{◌≡◌, ◌⊎◌, Bool, true, false, ◌&&◌, List, [], ◌∷◌, ◌++◌, leb, length}
+use Rattle.std.specs.Prelude.{◌≡◌, ◌⊎◌, Bool, true, false, ◌&&◌, List, [], ◌∷◌, ◌++◌, leb, length, drop, Result, Ok, Err}
+use Rattle.std.specs.List.{list_all, range_with_len}
+use Rattle.tape.specs.Layout.{width}
 use Rattle.std.proofs.Math.Path.{refl, ap}
 use Rattle.std.proofs.Common.{sym, ◌∙◌, subst, inl, inr, true≢false}
-use Prim.Native.Nat.{ℕ, zero, suc, ◌≤◌, ◌<◌, ◌+◌, ◌-◌}
-use Rattle.std.proofs.Math.Nat.{zero-add}
+use Prim.Native.Nat.{ℕ, zero, suc, ◌≤◌, ◌<◌, ◌+◌}
+use Rattle.std.proofs.Math.Numerals.{add-one}
 use Rattle.std.proofs.Math.Decide.{dec_le}
 use native.Mathlib.Omega.{arith}
 use borrow.Author.Tests.{le-leb, lt-leb, lt-ltb, le-ltb}
-use Rattle.outcome.specs.Call.{done, refusal, finished, numbers_of}
+use Rattle.std.specs.Result.{IsOk}
+use Rattle.outcome.specs.Told.{told}
+use Rattle.outcome.specs.ToldLaws.{told_once, told_refuses, told_done}
+use Rattle.outcome.specs.declared.Done.{Done}
+use Rattle.outcome.specs.declared.Refusal.{Refusal}
+use Rattle.outcome.specs.Call.{Outcome, After, Gives, done, refusal, finished, numbers_of}
 use Rattle.outcome.specs.AnswersLaws.{Fails, fails_leb, fails_and, fails_as}
-use Rattle.tape.specs.Both.{and_assoc, and_yes, and_no}
+use Rattle.tape.specs.Both.{and_assoc}
 use Rattle.tape.specs.Record.{words}
 use Rattle.tape.specs.Tape.{InOrder, used, headed, with_used, record_at, load}
-use Rattle.tape.specs.LoadLaws.{load_append}
-use Rattle.calls.specs.Calls.{cleared, clear_call, end_by, cut_back_call, readable, no_record, read_call, GivesRecord}
+use Rattle.calls.specs.Calls.{read_told, cleared, clear_call, end_by, cut_back_call, readable, no_record, read_call, GivesRecord, Reading}
 use Rattle.tape.specs.declared.Record.{Record}
-use Rattle.calls.specs.declared.Reading.{Reading}
 
 -- clear
 
@@ -29,6 +34,10 @@ module _ (slim : Bool) (t : List ℕ) where
   pub clear_0 : 4 ≤ length t → clear_call slim t ≡ finished (cleared slim t)
   unfolding clear_call
   clear_0 long = rw (le-leb 4 (length t) long)
+
+  -- done, where there are 4 words
+  pub clear_done : (r : Result Done Refusal) {x : List ℕ} → 4 ≤ length t → Gives (clear_call slim t) (told r) x → IsOk r
+  clear_done r long gives = told_done r (ap (λ (o : Outcome). o.answer) gives.gave ∙ ap (λ (a : After). a.outcome.answer) (clear_0 long))
 
 -- cleared
 
@@ -49,7 +58,21 @@ used_cleared slim (a ∷ b ∷ []) = refl
 used_cleared slim (a ∷ b ∷ c ∷ []) = refl
 used_cleared slim (a ∷ b ∷ c ∷ d ∷ rest) = refl
 
+-- its four words, and what stands behind them
+pub cleared_front : (slim : Bool) (t : List ℕ) → 4 ≤ length t → (0 ∷ 4 ∷ width slim ∷ 0 ∷ []) ++ drop 4 t ≡ cleared slim t
+cleared_front slim [] long = absurd (omega arith)
+cleared_front slim (a ∷ []) long = absurd (omega arith)
+cleared_front slim (a ∷ b ∷ []) long = absurd (omega arith)
+cleared_front slim (a ∷ b ∷ c ∷ []) long = absurd (omega arith)
+cleared_front slim (a ∷ b ∷ c ∷ d ∷ rest) long = refl
+
 -- cut back
+
+-- the test of each record, as the code does it
+pub end_by_each : (slim : Bool) (t : List ℕ) (mark at n : ℕ) → list_all (λ i. leb (record_at slim t i).past.0 mark) (range_with_len at n) ≡ end_by mark (load slim t at n)
+unfolding end_by load
+end_by_each slim t mark at zero = refl
+end_by_each slim t mark at (suc n) = ap (λ (b : Bool). leb (record_at slim t at).past.0 mark && b) (rw add-one (end_by_each slim t mark (suc at) n))
 
 -- records one after the other
 end_by-++ : (mark : ℕ) (xs ys : List Record) → end_by mark (xs ++ ys) ≡ (end_by mark xs && end_by mark ys)
@@ -58,31 +81,6 @@ end_by-++ mark [] ys = refl
 end_by-++ mark (x ∷ xs) ys = ap (λ (b : Bool). leb x.past.0 mark && b) (end_by-++ mark xs ys) ∙ sym (and_assoc (leb x.past.0 mark) (end_by mark xs) (end_by mark ys))
 
 module _ (slim : Bool) where
-  -- the turns of its loop, from the last record kept to the first
-  module _ (t : List ℕ) (mark left : ℕ) (more : 0 < left) where
-    -- the last record that is left, and those before it
-    end_last : end_by mark (load slim t 0 left) ≡ (end_by mark (load slim t 0 (left - 1)) && (leb (record_at slim t (left - 1)).past.0 mark && true))
-    unfolding end_by load
-    end_last =
-        let k : ℕ = left - 1 in
-        let count : left ≡ k + 1 = omega arith in
-        ap (λ (n : ℕ). end_by mark (load slim t 0 n)) count ∙ ap (end_by mark) (load_append slim k 1 t 0) ∙ end_by-++ mark (load slim t 0 k) (load slim t (0 + k) 1) ∙ rw zero-add refl
-
-    -- its descendants end by the mark
-    pub end_next : (record_at slim t (left - 1)).past.0 ≤ mark → end_by mark (load slim t 0 (left - 1)) ≡ end_by mark (load slim t 0 left)
-    end_next ends = sym (end_last ∙ rw (le-leb _ _ ends) (and_yes (end_by mark (load slim t 0 (left - 1)))))
-
-    -- its descendants end after the mark
-    pub end_over : mark < (record_at slim t (left - 1)).past.0 → false ≡ end_by mark (load slim t 0 left)
-    end_over over = sym (end_last ∙ rw (lt-leb _ _ over) (and_no (end_by mark (load slim t 0 (left - 1)))))
-
-  -- no record is left
-  pub end_none : (t : List ℕ) (mark left : ℕ) → left ≤ 0 → true ≡ end_by mark (load slim t 0 left)
-  unfolding end_by load
-  end_none t mark left none =
-      let count : left ≡ 0 = omega arith in
-      rw count refl
-
   -- of n records from a position on, one has word 5 above the mark
   abbrev Above : ℕ → List ℕ → ℕ → ℕ → Type 0
   Above n t mark at = (i : ℕ) × (at ≤ i) × (i < at + n) × (mark < (record_at slim t i).past.0)
@@ -151,6 +149,16 @@ module _ (slim : Bool) (t : List ℕ) (at : ℕ) where
   pub read_0 : headed slim t ≡ true → at < used t → readable (record_at slim t at) ≡ true → read_call slim t at ≡ record { outcome = done; «record» = record_at slim t at }
   unfolding read_call
   read_0 good inside fine = rw (good, lt-ltb at (used t) inside, fine)
+
+-- what the code's read tells, tells all of it: two results that meet read's contract are equal
+pub read_told_once : (a b : Result Record Refusal) → read_told a ≡ read_told b → a ≡ b
+read_told_once (Ok r) (Ok r') same = ap (λ (r : Record). Ok r) (ap (λ (x : Reading). x.«record») same)
+read_told_once (Ok r) (Err e) same = absurd (told_refuses e (sym (ap (λ (x : Reading). x.outcome.answer) same)))
+read_told_once (Err e) (Ok r) same = absurd (told_refuses e (ap (λ (x : Reading). x.outcome.answer) same))
+read_told_once (Err e) (Err e') same = refusal_same e e' (told_once (Err e) (Err e') (ap (λ (x : Reading). x.outcome) same))
+  where
+    refusal_same : (e e' : Refusal) → ◌≡◌ {A = Result Done Refusal} (Err e) (Err e') → ◌≡◌ {A = Result Record Refusal} (Err e) (Err e')
+    refusal_same e e' is = cc
 
 -- two results over the C boundary that meet read's contract are equal
 pub record_unique : {meant : Reading} {one other words' words'' : List ℕ} → GivesRecord meant one words' → GivesRecord meant other words'' → (one ≡ other) × (words' ≡ words'')

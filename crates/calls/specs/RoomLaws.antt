@@ -3,8 +3,7 @@ use Rattle.std.specs.Prelude.{◌≡◌, refl, Bool, true, false, List, ℕ, ◌
 use Rattle.std.proofs.Common.{sym, ap, ◌∙◌, arith, length-set}
 use Rattle.std.proofs.Math.Decide.{dec_le}
 use Rattle.std.proofs.Math.Seq.{length-sets}
-use Rattle.outcome.specs.Call.{After, Gives}
-use Rattle.outcome.specs.declared.Outcome.{Outcome}
+use Rattle.outcome.specs.Call.{After, Gives, Outcome}
 use Rattle.tape.specs.Tape.{InOrder, used, room, headed, with_used, load}
 use Rattle.tape.specs.HeaderLaws.{headed_in_order, in_order_headed, with_used_in_order}
 use Rattle.tape.specs.LoadLaws.{used_with_used}

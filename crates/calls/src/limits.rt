@@ -1,4 +1,4 @@
-// What read and the nest test admit; a later request raises these.
+// What read and the nest test admit; a later request raises these. Numbers and no `Label` or `Shape`: a tape may hold any.
 
 // The largest label.
 pub const LAST_LABEL: u64 = 56;

@@ -15,7 +15,7 @@ fn holds_others(r: Record) -> bool
     ensures { result ≡ holds (shape_of r) }
 {
     let shape = r.shape();
-    shape == Shape::ARRAY as u64 || shape == Shape::OBJECT as u64
+    shape == Shape::Array.code() as u64 || shape == Shape::Object.code() as u64
 }
 
 // Whether a record has no children.
@@ -30,13 +30,7 @@ fn is_container(r: Record, at: Position, end: Position) -> bool
     requires { at.0 < 2 ^ 62 }
     ensures { result ≡ is_container r at.0 end.0 }
 {
-    if r.first.0 != at.0 + 1 {
-        return false;
-    }
-    if r.past.0 < at.0 + 1 {
-        return false;
-    }
-    r.past.0 <= end.0
+    r.first.0 == at.0 + 1 && at.0 + 1 <= r.past.0 && r.past.0 <= end.0
 }
 
 // Whether the records from `from` up to `end` split into trees, at most `depth` containers deep.
@@ -45,6 +39,7 @@ fn split(tape: &[u64], slim: bool, depth: usize, from: Position, end: Position) 
     ensures { result ≡ trees slim tape.now depth from.0 end.0 }
 {
     let mut at = from.0;
+    // No `for`: the position goes on behind a container's children.
     while at < end.0 {
         let r = get(tape, slim, Position(at));
         if holds_others(r) {
@@ -70,12 +65,9 @@ fn split(tape: &[u64], slim: bool, depth: usize, from: Position, end: Position) 
 }
 
 // The call `nest test`: whether the used records split into trees.
+#[tactic(auto, unfolding(crate::specs::Nest::nest_test))]
 pub fn nest_test(tape: &[u64], slim: bool) -> bool
     ensures { result ≡ nest_test slim tape.now }
 {
-    if !in_order(tape, slim) {
-        return false;
-    }
-    let count = used(tape);
-    split(tape, slim, DEEPEST, Position(0), count)
+    in_order(tape, slim) && split(tape, slim, DEEPEST, Position(0), used(tape))
 }

@@ -14,7 +14,8 @@ ghost use Rattle.meaning.specs.AreaCall.{walk_call, push_call};
 use calls::nest::nest_test;
 use calls::{clear, cut_back, read};
 use octets::mask::mask_prefix;
-use tape::{Octet, Position};
+use outcome::Done;
+use tape::{Octet, Position, Record};
 
 // Records of six words: the one layout of this library, so that the back end takes the choice out of all that writes.
 const USUAL: bool = false;
@@ -33,7 +34,7 @@ pub extern "C" fn wakkemosut_name(registry: u64, t: u64, out: &mut [u8], numbers
     ensures { GivesNumbers (name_call registry t out.old) numbers.new out.new }
 {
     let outcome = registry::name(registry, t, out);
-    *numbers = outcome.numbers();
+    *numbers = outcome::numbers(outcome);
 }
 
 // Writes the records of an area's complete entries behind those that the tape has, and the outcome to `numbers`.
@@ -48,7 +49,7 @@ pub extern "C" fn wakkemosut_walk(
     ensures { GivesNumbers (walk_call false registry area.now base tape.old) numbers.new tape.new }
 {
     let outcome = subtlv::walk(&area[..], Octet(base as usize), registry, tape, USUAL);
-    *numbers = outcome.numbers();
+    *numbers = outcome::numbers(outcome);
 }
 
 // Writes the same, and a `raw` record beside it for the octets that are left, if there are any.
@@ -63,7 +64,7 @@ pub extern "C" fn wakkemosut_push(
     ensures { GivesNumbers (push_call false registry area.now base tape.old) numbers.new tape.new }
 {
     let outcome = subtlv::push(&area[..], Octet(base as usize), registry, tape, USUAL);
-    *numbers = outcome.numbers();
+    *numbers = outcome::numbers(outcome);
 }
 
 // Writes the header of a tape without records, and the outcome to `numbers`.
@@ -72,7 +73,7 @@ pub extern "C" fn wakkemosut_clear(tape: &mut [u64], numbers: &mut [u64; 4])
     ensures { GivesNumbers (clear_call false tape.old) numbers.new tape.new }
 {
     let outcome = clear(tape, USUAL);
-    *numbers = outcome.numbers();
+    *numbers = outcome::numbers(outcome);
 }
 
 // Lowers the count of used records to `mark`, and writes the outcome to `numbers`.
@@ -81,7 +82,7 @@ pub extern "C" fn wakkemosut_cut_back(tape: &mut [u64], mark: u64, numbers: &mut
     ensures { GivesNumbers (cut_back_call false tape.old mark) numbers.new tape.new }
 {
     let outcome = cut_back(tape, USUAL, Position(mark as usize));
-    *numbers = outcome.numbers();
+    *numbers = outcome::numbers(outcome);
 }
 
 // Writes the six words of the record at position `at` to `words`, and the outcome to `numbers`.
@@ -95,10 +96,9 @@ pub extern "C" fn wakkemosut_read(
     ensures { GivesRecord (read_call false tape.now at) numbers.new words.new }
 {
     let reading = read(tape, USUAL, Position(at as usize));
-    let outcome = reading.outcome;
-    let record = reading.record;
+    let record = reading.unwrap_or(Record::zeros());
     *words = record.words();
-    *numbers = outcome.numbers();
+    *numbers = outcome::numbers(reading.map(|_| Done::NOTHING));
 }
 
 // Whether the used records split into trees: 1 yes, 0 no.
@@ -106,8 +106,5 @@ pub extern "C" fn wakkemosut_read(
 pub extern "C" fn wakkemosut_nest_test(tape: &[u64]) -> u8
     ensures { result ≡ yes_no (nest_test false tape.now) }
 {
-    if nest_test(tape, USUAL) {
-        return 1;
-    }
-    0
+    nest_test(tape, USUAL) as u8
 }

@@ -1,4 +1,5 @@
-// The C boundary of the slim tape (document 02, request 09): each call on a tape, in records of four words.
+// The C boundary of the slim tape (document 02, request 09): each call on a tape, in records of four words. What stands twice, here
+// and in capi, does so for C: each function is a name of its own there.
 #![tactic(auto)]
 
 ghost use Rattle.std.specs.Prelude.{◌≡◌, true};
@@ -9,7 +10,8 @@ ghost use Rattle.meaning.specs.AreaCall.{walk_call, push_call};
 
 use calls::nest::nest_test;
 use calls::{clear, cut_back, read};
-use tape::{Octet, Position};
+use outcome::Done;
+use tape::{Octet, Position, Record};
 
 // Records of four words.
 const SLIM: bool = true;
@@ -26,7 +28,7 @@ pub extern "C" fn wakkemosut_slim_walk(
     ensures { GivesNumbers (walk_call true registry area.now base tape.old) numbers.new tape.new }
 {
     let outcome = subtlv::walk(&area[..], Octet(base as usize), registry, tape, SLIM);
-    *numbers = outcome.numbers();
+    *numbers = outcome::numbers(outcome);
 }
 
 // Writes the same, and a `raw` record beside it for the octets that are left, if there are any.
@@ -41,7 +43,7 @@ pub extern "C" fn wakkemosut_slim_push(
     ensures { GivesNumbers (push_call true registry area.now base tape.old) numbers.new tape.new }
 {
     let outcome = subtlv::push(&area[..], Octet(base as usize), registry, tape, SLIM);
-    *numbers = outcome.numbers();
+    *numbers = outcome::numbers(outcome);
 }
 
 // Writes the header of a tape without records, and the outcome to `numbers`.
@@ -50,7 +52,7 @@ pub extern "C" fn wakkemosut_slim_clear(tape: &mut [u64], numbers: &mut [u64; 4]
     ensures { GivesNumbers (clear_call true tape.old) numbers.new tape.new }
 {
     let outcome = clear(tape, SLIM);
-    *numbers = outcome.numbers();
+    *numbers = outcome::numbers(outcome);
 }
 
 // Lowers the count of used records to `mark`, and writes the outcome to `numbers`.
@@ -59,7 +61,7 @@ pub extern "C" fn wakkemosut_slim_cut_back(tape: &mut [u64], mark: u64, numbers:
     ensures { GivesNumbers (cut_back_call true tape.old mark) numbers.new tape.new }
 {
     let outcome = cut_back(tape, SLIM, Position(mark as usize));
-    *numbers = outcome.numbers();
+    *numbers = outcome::numbers(outcome);
 }
 
 // Writes the six words of the record at position `at` to `words`, and the outcome to `numbers`.
@@ -73,10 +75,9 @@ pub extern "C" fn wakkemosut_slim_read(
     ensures { GivesRecord (read_call true tape.now at) numbers.new words.new }
 {
     let reading = read(tape, SLIM, Position(at as usize));
-    let outcome = reading.outcome;
-    let record = reading.record;
+    let record = reading.unwrap_or(Record::zeros());
     *words = record.words();
-    *numbers = outcome.numbers();
+    *numbers = outcome::numbers(reading.map(|_| Done::NOTHING));
 }
 
 // Whether the used records split into trees: 1 yes, 0 no.
@@ -84,8 +85,5 @@ pub extern "C" fn wakkemosut_slim_read(
 pub extern "C" fn wakkemosut_slim_nest_test(tape: &[u64]) -> u8
     ensures { result ≡ yes_no (nest_test true tape.now) }
 {
-    if nest_test(tape, SLIM) {
-        return 1;
-    }
-    0
+    nest_test(tape, SLIM) as u8
 }

@@ -2,7 +2,7 @@
 use Rattle.std.specs.Prelude.{◌≡◌, true, List, [], ◌∷◌, ℕ, ◌+◌, ◌*◌, ◌/◌, ◌≤◌, ◌<◌, leb, take, drop}
 use Rattle.std.proofs.Math.Path.{refl}
 use Rattle.std.proofs.Common.{◌∙◌, mul-zero, mul-suc, arith, length-drop}
-use Rattle.std.proofs.Math.Decide.{dec_le}
+use Rattle.std.proofs.lemmas.Bool.Decides.{nat_tests}
 use borrow.Author.Tests.{le-leb, leb-true}
 use Rattle.std.proofs.Math.ListN.{length}
 use Rattle.std.proofs.Math.Seq.{length-take-le}
@@ -25,11 +25,7 @@ use Rattle.count.specs.RowCount.{under_test, under_most, last_counts}
 
 -- where none stands, there are fewer octets
 whole_none : (w : ℕ) (xs : List ℕ) → 0 < w → whole w xs ≡ 0 → length xs < w
-whole_none w xs some e = go (dec_le w (length xs))
-  where
-    go : Dec (w ≤ length xs) → length xs < w
-    go (yes long) = absurd (omega (arith, rw (le-leb w (length xs) long) at e))
-    go (no short) = omega arith
+whole_none w xs some e = grind (arith, nat_tests)
 
 -- q pieces of w octets, each k records, and fewer than w octets left: with w a literal, omega has q ≡ length xs / w
 pub record Even (w k : ℕ) (f : List ℕ → ℕ → Forest) (xs : List ℕ) (ps : List (List ℕ)) : Type 0 where
@@ -74,29 +70,26 @@ array_records : (registry : ℕ) (v : List ℕ) (base : ℕ) (label : Label) (sp
 unfolding field_trees field_end array_of
 array_records registry v base label span element shows takes x = rw x.1 (omega (arith, x.0 (base + start_of span)))
 
-module _ (registry k : ℕ) (v : List ℕ) where
-  abbrev Long : Type 0
-  Long = least_in table registry k ≤ length v
+-- a type whose row is one array
+array_counts : {registry kind k r : ℕ} {v : List ℕ} (shows takes : ℕ) {label : Label} {span : Span} {element : Element} → kind ≡ k → OneRow registry k v → fields_in table registry k ≡ array label span element ∷ []
+    → (least_in table registry k ≤ length v → Shows registry v span element shows takes × (shows ≤ 3 + 4 * length v)) → r ≡ row_records (least_in table registry k) (1 + shows) takes (length v)
+    → Counts registry kind v r
+array_counts {registry} {k = k} {v = v} shows takes {label} {span} {element} is row these read same =
+    let least = least_in table registry k in
+    let b = leb least (length v) in
+    let long : b ≡ true → least ≤ length v = leb-true least (length v) in
+    let all : ℕ = 1 + shows + rest takes (length v) in
+    let most = under_most b all (5 + 4 * length v) (omega arith) (λ e. omega (arith, (read (long e)).1, rest_most takes (length v))) in
+    last_counts is row [] (array label span element) these tt (omega (arith, same, most))
+    (λ base. same ∙ under_test b all (0 + last_records registry v base (array label span element)) 1
+    (λ e. omega (arith, array_records registry v base label span element shows takes (read (long e)).0)))
 
-  -- a type whose row is one array
-  array_counts : (shows takes : ℕ) {label : Label} {span : Span} {element : Element} → OneRow registry k v → fields_in table registry k ≡ array label span element ∷ []
-      → (Long → Shows registry v span element shows takes × (shows ≤ 3 + 4 * length v)) → {kind r : ℕ} → kind ≡ k → r ≡ row_records (least_in table registry k) (1 + shows) takes (length v)
-      → Counts registry kind v r
-  array_counts shows takes {label} {span} {element} row these read is same =
-      let b = leb (least_in table registry k) (length v) in
-      let long : b ≡ true → Long = leb-true (least_in table registry k) (length v) in
-      let all : ℕ = 1 + shows + rest takes (length v) in
-      let most = under_most b all (5 + 4 * length v) (omega arith) (λ e. omega (arith, (read (long e)).1, rest_most takes (length v))) in
-      last_counts registry k v row [] (array label span element) these tt is (omega (arith, same, most))
-      (λ base. same ∙ under_test b all (0 + last_records registry v base (array label span element)) 1
-      (λ e. omega (arith, array_records registry v base label span element shows takes (read (long e)).0)))
-
-module _ (v : List ℕ) {kind r : ℕ} where
+module _ {kind r : ℕ} {v : List ℕ} where
   -- unreserved bandwidth: 8 numbers
   pub bandwidth_counts : kind ≡ 11 → r ≡ row_records 32 9 32 (length v) → Counts 0 kind v r
   unfolding usual fields_of table least_in fields_in
-  bandwidth_counts =
-      array_counts 0 11 v 8 32 refl refl
+  bandwidth_counts is =
+      array_counts 8 32 is refl refl
       (λ long.
       let x = numbers_even Label.bandwidth_element u32 4 0 (omega arith) (take 32 v) in
       let n = length-take-le 32 v long in
@@ -105,15 +98,15 @@ module _ (v : List ℕ) {kind r : ℕ} where
   -- tags of 4 octets, and of 8
   pub tags_counts : kind ≡ 1 → r ≡ row_records 4 (1 + length v / 4) (length v / 4 * 4) (length v) → Counts 1 kind v r
   unfolding usual fields_of table least_in fields_in
-  tags_counts =
+  tags_counts is =
       let x = numbers_even Label.tag u32 4 1 (omega arith) v in
-      array_counts 1 1 v (length v / 4) (length v / 4 * 4) refl refl (λ long. ((λ at. omega (arith, x.records at), omega arith), omega arith))
+      array_counts (length v / 4) (length v / 4 * 4) is refl refl (λ long. ((λ at. omega (arith, x.records at), omega arith), omega arith))
 
   pub long_tags_counts : kind ≡ 2 → r ≡ row_records 8 (1 + length v / 8) (length v / 8 * 8) (length v) → Counts 1 kind v r
   unfolding usual fields_of table least_in fields_in
-  long_tags_counts =
+  long_tags_counts is =
       let x = numbers_even Label.tag u64 8 1 (omega arith) v in
-      array_counts 1 2 v (length v / 8) (length v / 8 * 8) refl refl (λ long. ((λ at. omega (arith, x.records at), omega arith), omega arith))
+      array_counts (length v / 8) (length v / 8 * 8) is refl refl (λ long. ((λ at. omega (arith, x.records at), omega arith), omega arith))
 
   -- algorithms: an octet each
   pub algorithms_counts : kind ≡ 19 → r ≡ 1 + length v → Counts 2 kind v r
@@ -121,11 +114,11 @@ module _ (v : List ℕ) {kind r : ℕ} where
   algorithms_counts is same =
       let x = numbers_even Label.algorithm_element u8 1 2 (omega arith) v in
       let all : r ≡ row_records 0 (1 + length v) (length v) (length v) = rw (le-leb 0 (length v) (omega arith), le-leb (length v) (length v) (omega arith)) (omega arith) in
-      array_counts 2 19 v (length v) (length v) refl refl (λ long. ((λ at. omega (arith, x.records at), omega arith), omega arith)) is all
+      array_counts (length v) (length v) is refl refl (λ long. ((λ at. omega (arith, x.records at), omega arith), omega arith)) all
 
   -- MSDs: 2 octets each
   pub msds_counts : kind ≡ 23 → r ≡ row_records 0 (1 + 3 * (length v / 2)) (length v / 2 * 2) (length v) → Counts 2 kind v r
   unfolding usual fields_of table least_in fields_in
-  msds_counts =
+  msds_counts is =
       let x = msds_even 2 v in
-      array_counts 2 23 v (3 * (length v / 2)) (length v / 2 * 2) refl refl (λ long. ((λ at. omega (arith, x.records at), omega arith), omega arith))
+      array_counts (3 * (length v / 2)) (length v / 2 * 2) is refl refl (λ long. ((λ at. omega (arith, x.records at), omega arith), omega arith))

@@ -1,32 +1,49 @@
 -- One law for every loop that counts what pieces become.
-use Rattle.std.specs.Prelude.{◌≡◌, List, ℕ, ◌+◌, ◌≤◌, ◌<◌, length, take, drop}
-use Rattle.std.proofs.Common.{ap, add-zero, arith, length-drop}
+use Rattle.std.specs.Prelude.{◌≡◌, List, ℕ, ◌+◌, ◌*◌, ◌-◌, ◌≤◌, Some, None, length, take, drop}
+use Rattle.std.proofs.Common.{refl, arith, length-drop, length-take-le}
 use Rattle.tape.specs.Forest.{Forest, size}
 use Rattle.tape.specs.ForestLaws.{size-⧺}
 use Rattle.meaning.specs.Cut.{Measure, pieces, total, each}
-use Rattle.meaning.specs.PlaceLaws.{left, left_step, more_step, left_end, more_end}
+use Rattle.meaning.specs.CutLaws.{pieces_stop, pieces_step}
+use Rattle.meaning.specs.Complete.{complete}
+use Rattle.meaning.specs.CompleteLaws.{complete_is, complete_none}
+use Rattle.meaning.specs.PlaceLaws.{part_rest}
+use Rattle.count.specs.Records.{Cuts}
 
--- pieces cut by m out of s: with those before octet i, k records became n, wherever the first octet stands
-pub record Counting (m : Measure) (f : List ℕ → ℕ → Forest) (s : List ℕ) (k i n : ℕ) : Type 0 where
-  pub inside : i ≤ length s
-  pub count : i + total (pieces m (drop i s)) ≡ total (pieces m s)
-  pub records : (base : ℕ) → n + size (each f (base + i) (pieces m (drop i s))) ≡ k + size (each f base (pieces m s))
+-- pieces cut by m out of s, of which some octets are left: those before them became n records
+pub record Counting (m : Measure) (f : List ℕ → ℕ → Forest) (s left : List ℕ) (n : ℕ) : Type 0 where
+  pub inside : length left ≤ length s
+  pub few : n + 4 * length left ≤ 4 * length s
+  pub octets : length s + total (pieces m left) ≡ length left + total (pieces m s)
+  pub records : (base : ℕ) → (at : ℕ) × (n + size (each f at (pieces m left)) ≡ size (each f base (pieces m s)))
 
 -- before the first turn
-pub counting_start : (m : Measure) (f : List ℕ → ℕ → Forest) (s : List ℕ) (k : ℕ) → Counting m f s k 0 k
-counting_start m f s k = record { inside = omega arith; count = omega arith; records = λ base. omega (arith, ap (λ (n : ℕ). size (each f n (pieces m s))) (add-zero base)) }
+pub counting_start : {m : Measure} {f : List ℕ → ℕ → Forest} {s : List ℕ} → Counting m f s s 0
+counting_start = record { inside = omega arith; few = omega arith; octets = refl; records = λ base. (base, omega arith) }
 
-module _ {m : Measure} (fits : (xs : List ℕ) → m xs ≤ length xs) {f : List ℕ → ℕ → Forest} {s : List ℕ} {first : ℕ} where
+module _ {m : Measure} (fits : (xs : List ℕ) → m xs ≤ length xs) {f : List ℕ → ℕ → Forest} {s left : List ℕ} {n : ℕ} (c : Counting m f s left n) where
   -- one turn, over a piece of w octets that becomes k records
-  pub counting_step : {i n next : ℕ} (w k : ℕ) → Counting m f s first i n → m (drop i s) ≡ w → 0 < w → ((at : ℕ) → size (f (take w (drop i s)) at) ≡ k) → next ≡ n + k → Counting m f s first (i + w) next
-  counting_step {i} w k c is some one more-records =
-      record {
-        inside = omega (arith, c.inside, rw is at (fits (drop i s)), length-drop i s);
-        count = omega (arith, c.count, more_step m fits f 0 s i w is some);
-        records = λ base. omega (arith, c.records base, ap size (left_step m fits f base s i w is some), size-⧺ (f (take w (drop i s)) (base + i)) (left m f base s (i + w)), one (base + i));
-      }
+  pub counting_step : {w next : ℕ} (k : ℕ) → Some w ≡ complete (m left) → k ≤ 4 * w → ((at : ℕ) → size (f (take w left) at) ≡ k) → next ≡ n + k
+      → Counting m f s (take (length left - w) (drop w left)) next
+  unfolding total each
+  counting_step {w} {next} k is few one more =
+      let here = complete_is (m left) is in
+      let there : w ≤ length left = omega (arith, here, fits left) in
+      let front : length (take w left) ≡ w = length-take-le w left there in
+      let cut = rw here.0 at (pieces_step m fits left here.1) in
+      rw (part_rest w left) (record {
+        inside = omega (arith, c.inside, length-drop w left);
+        few = omega (arith, c.few, length-drop w left);
+        octets = omega (arith, rw cut at c.octets, front, length-drop w left);
+        records = λ base.
+            let at = (c.records base).0 in
+            let before = rw (cut, size-⧺) at (c.records base).1 in
+            (at + length (take w left), omega (arith, before, one at, more));
+      })
 
   -- after the last turn
-  pub counting_end : {i n : ℕ} → Counting m f s first i n → m (drop i s) ≡ 0 → (i ≡ total (pieces m s)) × ((base : ℕ) → n ≡ first + size (each f base (pieces m s)))
-  counting_end {i} c stops =
-      (omega (arith, c.count, more_end m fits f 0 s i stops), λ base. omega (arith, c.records base, ap size (left_end m fits f base s i stops)))
+  pub counting_end : None ≡ complete (m left) → Cuts m f s (record { covered = length s - length left; records = n })
+  unfolding total each
+  counting_end stops =
+      let none = pieces_stop m fits left (complete_none (m left) stops) in
+      record { few = omega (arith, c.few); covers = omega (arith, c.inside, rw none at c.octets); records = λ base. omega (arith, rw none at (c.records base).1) }

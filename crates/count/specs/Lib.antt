@@ -4,7 +4,6 @@ pub mod Counting
 pub mod AreaCount
 pub mod PlainTypes
 pub mod RowCount
-pub mod Unread
 pub mod LastCount
 pub mod TailCount
 pub mod ArrayCount

@@ -15,10 +15,6 @@ are_plain least (array label span element ∷ fs) = false
 are_plain least (tail at ∷ fs) = false
 are_plain least (push at ∷ fs) = false
 
--- other fields are not
-not_plain : false ≡ true → ⊥
-not_plain e = let z : ◌≡◌ {A = ℕ} 0 1 = cc in omega arith
-
 -- in a value so long they are plain
 pub plain_fields : (least : ℕ) (fs : List Field) (v : List ℕ) → least ≤ length v → are_plain least fs ≡ true → Plain v fs
 plain_fields least [] v long e = tt
@@ -27,6 +23,6 @@ plain_fields least (flag label mask ∷ fs) v long e = plain_fields least fs v l
 plain_fields least (sid at ∷ fs) v long e =
     let x = both (leb (at + 3) least) (are_plain least fs) e in
     (omega (arith, leb-true (at + 3) least x.0), plain_fields least fs v long x.1)
-plain_fields least (array label span element ∷ fs) v long e = absurd (not_plain e)
-plain_fields least (tail at ∷ fs) v long e = absurd (not_plain e)
-plain_fields least (push at ∷ fs) v long e = absurd (not_plain e)
+plain_fields least (array label span element ∷ fs) v long e = cc
+plain_fields least (tail at ∷ fs) v long e = cc
+plain_fields least (push at ∷ fs) v long e = cc

@@ -1,10 +1,9 @@
 -- How many records a value becomes, by the numbers of its row.
 use Rattle.std.specs.Prelude.{◌≡◌, cond, List, [], ◌∷◌, ℕ, ◌+◌, ◌*◌, ◌≤◌, leb, length}
-use Rattle.meaning.specs.Field.{Field, part, flag, sid, array, tail, push, ranges}
-use Rattle.tape.specs.Forest.{size}
-use Rattle.meaning.specs.Cut.{pieces, total, each}
-use Rattle.meaning.specs.Frame.{range_length, covered}
-use Rattle.meaning.specs.Array.{element_trees}
+use Rattle.meaning.specs.Field.{Field, part, flag, sid, array, tail, push}
+use Rattle.tape.specs.Forest.{Forest, size}
+use Rattle.meaning.specs.Cut.{Measure, pieces, total, each}
+use Rattle.meaning.specs.Frame.{covered}
 use Rattle.meaning.specs.Table.{usual}
 use Rattle.meaning.specs.Value.{Walk, field_end, field_trees, value_trees}
 use Rattle.meaning.specs.Area.{inner_walk}
@@ -46,10 +45,6 @@ last_records registry v base f = size (field_trees (inner_walk usual) registry v
 abbrev pub head_records : ℕ → ℕ → ℕ → List ℕ → ℕ → Field → ℕ
 head_records least head registry v base f = cond (leb least (length v)) (head + last_records registry v base f) 1
 
--- octets that are ranges, and what is left behind these
-abbrev pub ranges_records : ℕ → List ℕ → ℕ → ℕ
-ranges_records registry s base = size (each (element_trees ranges registry) base (pieces range_length s)) + rest (total (pieces range_length s)) (length s)
-
 -- a value with such a last field becomes r records, which are so few that no sum wraps
 pub record Heads (least head : ℕ) (v : List ℕ) (f : Field) (r : ℕ) : Type 0 where
   pub few : r ≤ 5 + 4 * length v
@@ -63,6 +58,12 @@ pub record CountsBy (walk : Walk) (registry kind : ℕ) (v : List ℕ) (r : ℕ)
 -- by the walk of the nested level
 abbrev pub Counts : ℕ → ℕ → List ℕ → ℕ → Type 0
 Counts = CountsBy (inner_walk usual)
+
+-- octets are counted by the pieces that m cuts out of them: the octets of the pieces, and the records that these become
+pub record Cuts (m : Measure) (f : List ℕ → ℕ → Forest) (s : List ℕ) (r : Counted) : Type 0 where
+  pub few : r.records ≤ 4 * length s
+  pub covers : r.covered ≡ total (pieces m s)
+  pub records : (base : ℕ) → r.records ≡ size (each f base (pieces m s))
 
 -- an area is counted: the octets of its complete entries, and the records of its walk
 pub record Walks (walk : Walk) (registry : ℕ) (area : List ℕ) (r : Counted) : Type 0 where

@@ -1,14 +1,14 @@
 -- A value with plain fields becomes as many records as its numbers say.
-use Rattle.std.specs.Prelude.{◌≡◌, refl, Bool, true, false, cond, List, [], ◌∷◌, ℕ, ◌+◌, ◌≤◌, leb, length, drop}
+use Rattle.std.specs.Prelude.{◌≡◌, refl, List, [], ◌∷◌, ℕ, ◌+◌, ◌≤◌, length, drop}
 use Rattle.std.proofs.Common.{◌∙◌, arith, le-leb}
 use Rattle.std.proofs.Math.Decide.{dec_le}
 use Rattle.std.proofs.lemmas.Bool.{lt-leb}
+use Rattle.std.proofs.lemmas.Bool.Decides.{nat_tests}
 use Rattle.tape.specs.Forest.{size}
 use Rattle.tape.specs.ForestLaws.{size-⧺}
 use Rattle.meaning.specs.Tree.{raw}
 use Rattle.meaning.specs.AreaLaws.{raw_none, raw_some}
 use Rattle.meaning.specs.Sid.{sid_end}
-use Rattle.meaning.specs.SidLaws.{sid_four_end, sid_three_end}
 use Rattle.meaning.specs.Field.{Field, part, flag, sid, array, tail, push}
 use Rattle.meaning.specs.Value.{Walk, field_end, taken, fields_trees, value_trees}
 use Rattle.readings.specs.Plain.{Plain, size_plain}
@@ -24,11 +24,7 @@ size_raw registry place at v = go (dec_le (length v) at)
 
 -- one record at most
 pub rest_most : (takes n : ℕ) → rest takes n ≤ 1
-rest_most takes n = go (leb n takes)
-  where
-    go : (b : Bool) → cond b 0 1 ≤ 1
-    go true = omega arith
-    go false = omega arith
+rest_most takes n = grind (arith, nat_tests)
 
 -- the fields after the first one
 pub behind : (v : List ℕ) (f : Field) (fs : List Field) → Plain v (f ∷ fs) → Plain v fs
@@ -41,11 +37,8 @@ behind v (push at) fs p = absurd p
 
 -- a SID of 3 octets leaves nothing, and one of 4 what is behind it
 sid_rest : (v : List ℕ) (at : ℕ) → at + 3 ≤ length v → rest (sid_end v at) (length v) ≡ rest (at + 4) (length v)
-sid_rest v at there = go (dec_le (at + 4) (length v))
-  where
-    go : Dec (at + 4 ≤ length v) → rest (sid_end v at) (length v) ≡ rest (at + 4) (length v)
-    go (yes long) = rw (sid_four_end v at long) refl
-    go (no short) = rw (sid_three_end v at (omega arith), le-leb (length v) (at + 3) (omega arith), le-leb (length v) (at + 4) (omega arith)) refl
+unfolding sid_end
+sid_rest v at there = grind (arith, nat_tests)
 
 -- what plain fields leave is what the most that they take leaves
 rest_taken : (v : List ℕ) (f : Field) (fs : List Field) → Plain v (f ∷ fs) → rest (taken v (f ∷ fs)) (length v) ≡ rest (takes (f ∷ fs)) (length v)

@@ -1,13 +1,13 @@
 -- The records of a value, by the row of its type.
-use Rattle.std.specs.Prelude.{◌≡◌, refl, Bool, true, false, cond, List, [], ◌∷◌, ◌++◌, ℕ, ◌+◌, ◌*◌, ◌≤◌, leb, length, drop}
-use Rattle.std.proofs.Common.{sym, ap, ◌∙◌, arith, le-leb, leb-true, length-drop}
-use Rattle.std.proofs.Math.Decide.{dec_le}
-use Rattle.std.proofs.lemmas.Bool.{lt-leb}
+use Rattle.std.specs.Prelude.{◌≡◌, refl, Bool, true, false, ◌&&◌, cond, List, [], ◌∷◌, ◌++◌, ℕ, ◌+◌, ◌*◌, ◌≤◌, leb, length, drop}
+use Rattle.std.proofs.Common.{sym, ap, ◌∙◌, arith, leb-true, length-drop}
+use Rattle.std.proofs.lemmas.Bool.Decides.{nat_tests}
+use Rattle.tape.specs.Both.{both}
 use Rattle.tape.specs.Forest.{none, size, ◌⧺◌}
 use Rattle.tape.specs.ForestLaws.{size-⧺}
 use Rattle.meaning.specs.Field.{Field, part, flag, sid, array, tail, push}
 use Rattle.meaning.specs.Table.{table, usual}
-use Rattle.meaning.specs.TableLaws.{least_in, fields_in, OneRow}
+use Rattle.meaning.specs.TableLaws.{least_in, fields_in, OneRow, NoneOf, types_of, usual_unknown}
 use Rattle.meaning.specs.Tree.{raw}
 use Rattle.meaning.specs.Value.{Walk, field_end, taken, field_trees, fields_trees, value_trees}
 use Rattle.meaning.specs.Area.{inner_walk}
@@ -27,11 +27,7 @@ under_most false x y some most = some
 
 -- what is left behind k octets
 pub rest_behind : (k t : ℕ) (v : List ℕ) → k ≤ length v → rest t (length (drop k v)) ≡ rest (k + t) (length v)
-rest_behind k t v inside = go (dec_le (length v) (k + t))
-  where
-    go : Dec (length v ≤ k + t) → rest t (length (drop k v)) ≡ rest (k + t) (length v)
-    go (yes past) = rw (le-leb (length (drop k v)) t (omega (arith, length-drop k v)), le-leb (length v) (k + t) past) refl
-    go (no inside') = rw (lt-leb (length (drop k v)) t (omega (arith, length-drop k v)), lt-leb (length v) (k + t) (omega arith)) refl
+rest_behind k t v inside = grind (arith, nat_tests, length-drop k v)
 
 -- one record where the fields are not there
 size_under : (walk : Walk) (registry : ℕ) (v : List ℕ) (base : ℕ) (fs : List Field) (b : Bool)
@@ -40,10 +36,10 @@ unfolding value_trees
 size_under walk registry v base fs true = refl
 size_under walk registry v base fs false = refl
 
--- a type that no row reads
-pub unknown_counts : (walk : Walk) (registry kind : ℕ) (v : List ℕ) → usual registry kind v ≡ [] → CountsBy walk registry kind v 1
+-- a type that the table does not list is one record
+pub unread_counts : {walk : Walk} {registry kind : ℕ} {v : List ℕ} → NoneOf kind (types_of registry table) → CountsBy walk registry kind v 1
 unfolding value_trees
-unknown_counts walk registry kind v none_read = record { few = omega arith; records = λ base. rw none_read refl }
+unread_counts {registry = registry} {kind = kind} {v = v} unread = record { few = omega arith; records = λ base. rw (usual_unknown registry kind v unread) refl }
 
 -- the first of plain fields
 first_plain : (v : List ℕ) (f : Field) (fs : List Field) → Plain v (f ∷ fs) → Plain v (f ∷ [])
@@ -104,34 +100,40 @@ plain_most : (n : ℕ) (fs : List Field) → length fs ≤ 4 → plain_records n
 plain_most n [] four = omega arith
 plain_most n (f ∷ fs) four = omega (arith, rest_most (takes (f ∷ fs)) n)
 
-module _ (registry k : ℕ) (v : List ℕ) (row : OneRow registry k v) where
+-- a row has four plain fields or fewer
+abbrev pub is_plain_row : ℕ → List Field → Bool
+is_plain_row least fs = leb (length fs) 4 && are_plain least fs
+
+module _ {walk : Walk} {registry kind k r : ℕ} {v : List ℕ} (is : kind ≡ k) (row : OneRow registry k v) where
   -- a value of type k, by its row
-  by_row_lem : (walk : Walk) {kind r : ℕ} → kind ≡ k → r ≤ 5 + 4 * length v
-      → ((base : ℕ) → r ≡ cond (leb (least_in table registry k) (length v)) (size (value_trees walk registry v base (fields_in table registry k))) 1) → CountsBy walk registry kind v r
-  by_row_lem walk is few same =
+  by_row_lem : r ≤ 5 + 4 * length v → ((base : ℕ) → r ≡ cond (leb (least_in table registry k) (length v)) (size (value_trees walk registry v base (fields_in table registry k))) 1)
+      → CountsBy walk registry kind v r
+  by_row_lem few same =
       record { few = few; records = λ base. same base ∙ sym (rw (is, row) (size_under walk registry v base (fields_in table registry k) (leb (least_in table registry k) (length v)))) }
 
   -- with plain fields
-  pub row_counts : are_plain (least_in table registry k) (fields_in table registry k) ≡ true → length (fields_in table registry k) ≤ 4 → {walk : Walk} {kind r : ℕ} → kind ≡ k
+  pub row_counts : is_plain_row (least_in table registry k) (fields_in table registry k) ≡ true
       → r ≡ cond (leb (least_in table registry k) (length v)) (plain_records (length v) (fields_in table registry k)) 1 → CountsBy walk registry kind v r
-  row_counts plain four {walk} is same =
+  row_counts plain same =
       let least = least_in table registry k in
       let fs = fields_in table registry k in
-      let most = under_most (leb least (length v)) (plain_records (length v) fs) 5 (omega arith) (λ long. plain_most (length v) fs four) in
-      by_row_lem walk is (omega (arith, same, most))
+      let x = both (leb (length fs) 4) (are_plain least fs) plain in
+      let most = under_most (leb least (length v)) (plain_records (length v) fs) 5 (omega arith) (λ long. plain_most (length v) fs (leb-true (length fs) 4 x.0)) in
+      by_row_lem (omega (arith, same, most))
       (λ base. same ∙ under_test (leb least (length v)) (plain_records (length v) fs) (size (value_trees walk registry v base fs)) 1
-      (λ long. sym (value_plain walk registry v base fs (plain_fields least fs v (leb-true least (length v) long) plain))))
+      (λ long. sym (value_plain walk registry v base fs (plain_fields least fs v (leb-true least (length v) long) x.1))))
 
+module _ {registry kind k r : ℕ} {v : List ℕ} (is : kind ≡ k) (row : OneRow registry k v) where
   -- with plain fields and then one that is not
-  pub last_counts : (fs : List Field) (f : Field) → fields_in table registry k ≡ fs ++ f ∷ [] → Plain v fs → {kind r : ℕ} → kind ≡ k → r ≤ 5 + 4 * length v
+  pub last_counts : (fs : List Field) (f : Field) → fields_in table registry k ≡ fs ++ f ∷ [] → Plain v fs → r ≤ 5 + 4 * length v
       → ((base : ℕ) → r ≡ head_records (least_in table registry k) (length fs) registry v base f) → Counts registry kind v r
-  last_counts fs f these plain is few same =
-      by_row_lem (inner_walk usual) is few
+  last_counts fs f these plain few same =
+      by_row_lem is row few
       (λ base.
       let all = ap (λ (l : List Field). size (value_trees (inner_walk usual) registry v base l)) these ∙ last_size registry v base fs f plain in
       same base ∙ ap (λ (n : ℕ). cond (leb (least_in table registry k) (length v)) n 1) (sym all))
 
   -- the same, as a function counts it
-  pub heads_counts : {f : Field} → fields_in table registry k ≡ front (fields_in table registry k) ++ f ∷ [] → Plain v (front (fields_in table registry k)) → {kind r : ℕ} → kind ≡ k
+  pub heads_counts : {f : Field} → fields_in table registry k ≡ front (fields_in table registry k) ++ f ∷ [] → Plain v (front (fields_in table registry k))
       → Heads (least_in table registry k) (length (front (fields_in table registry k))) v f r → Counts registry kind v r
-  heads_counts {f} these plain is heads = last_counts (front (fields_in table registry k)) f these plain is heads.few (heads.records registry)
+  heads_counts {f} these plain heads = last_counts (front (fields_in table registry k)) f these plain heads.few (heads.records registry)

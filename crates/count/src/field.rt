@@ -2,28 +2,26 @@
 ghost use Rattle.std.specs.Prelude.{◌≡◌, ℕ, ◌+◌, ◌*◌, ◌≤◌, ◌<◌, ◌^◌, length};
 ghost use Rattle.meaning.specs.Label;
 ghost use Rattle.meaning.specs.Field.{array, tail as tail_field, push, from, ranges as range_element};
-ghost use Rattle.count.specs.Records.{last_records, ranges_records, Heads};
+ghost use Rattle.meaning.specs.Frame.{range_length};
+ghost use Rattle.meaning.specs.Array.{element_trees};
+ghost use Rattle.count.specs.Records.{last_records, Cuts, Heads};
 
-use crate::nested::nested_area;
-use crate::row::with_rest;
-use fields::array::range_length;
+use crate::{Counted, count_area};
+use fields::piece::range_length;
+use registry::registries::{Srv6Sid, Unregistered};
 
 // The records of an SRv6 tail from `at` on, and of what is left of the value behind it.
 fn tail(value: &[u8], at: usize) -> usize
     requires { (at + 16 ≤ length value.now) × (length value.now < 2 ^ 32) }
     ensures { (result ≤ 4 * length value.now) × ((registry base : ℕ) → result ≡ last_records registry value.now base (tail_field at)) }
 {
-    let n = value.len();
-    let length_at = at + 16;
-    if n <= length_at {
+    let Some((length, behind)) = value[at + 16..].split_first() else {
         return 1;
-    }
-    let start = length_at + 1;
-    let stop = start + value[length_at] as usize;
-    if n < stop {
+    };
+    let Some(inner) = behind.get(..*length as usize) else {
         return 2;
-    }
-    1 + with_rest(nested_area(&value[start..stop], true), n - start)
+    };
+    1 + count_area(inner, Srv6Sid).with_rest(behind.len())
 }
 
 // The records of a value that has `head` fields and then an SRv6 tail from `at` on; one where the tail's SID is not there.
@@ -37,23 +35,22 @@ pub fn head_and_tail(value: &[u8], head: usize, at: usize) -> usize
     head + tail(value, at)
 }
 
-// The records of ranges, and of what is left behind them.
-fn ranges(octets: &[u8]) -> usize
+// Counts ranges, one after the other.
+#[tactic(auto, using(crate::specs::LastCount::range_found))]
+fn ranges(octets: &[u8]) -> Counted
     requires { length octets.now < 2 ^ 32 }
-    ensures { (result ≤ 1 + length octets.now) × ((registry base : ℕ) → result ≡ ranges_records registry octets.now base) }
+    ensures { (registry : ℕ) → Cuts range_length (element_trees range_element registry) octets.now result }
 {
-    let mut at = 0;
+    let mut left = octets;
     let mut records = 0;
-    let mut length = range_length(octets, 0);
-    while 0 < length {
-        records = records + 3;
-        at = at + length;
-        length = range_length(octets, at);
+    while let Some(length) = range_length(left) {
+        records += 3;
+        left = &left[length..];
     }
-    if at < octets.len() {
-        return records + 1;
+    Counted {
+        covered: octets.len() - left.len(),
+        records,
     }
-    records
 }
 
 // The records of a value that is flags and ranges.
@@ -61,11 +58,10 @@ pub fn flags_and_ranges(value: &[u8]) -> usize
     requires { length value.now < 2 ^ 32 }
     ensures { Heads 1 1 value.now (array Label.ranges (from 1) range_element) result }
 {
-    let n = value.len();
-    if n < 1 {
+    let Some(octets) = value.get(1..) else {
         return 1;
-    }
-    2 + ranges(&value[1..n])
+    };
+    2 + ranges(octets).with_rest(octets.len())
 }
 
 // The records of a value that is flags of 2 octets and a push in registry 5.
@@ -73,9 +69,8 @@ pub fn flags_and_push(value: &[u8]) -> usize
     requires { length value.now < 2 ^ 32 }
     ensures { Heads 2 1 value.now (push 2) result }
 {
-    let n = value.len();
-    if n < 2 {
+    let Some(area) = value.get(2..) else {
         return 1;
-    }
-    1 + with_rest(nested_area(&value[2..n], false), n - 2)
+    };
+    1 + count_area(area, Unregistered).with_rest(area.len())
 }

@@ -1,50 +1,40 @@
-// Areas of the nested level: registry 4, of an SRv6 SID, and registry 5, which reads no type.
-ghost use Rattle.std.specs.Prelude.{cond, ◌<◌, ◌^◌, length};
-ghost use Rattle.meaning.specs.Table.{usual};
+// The nested level: registry 4, of an SRv6 SID, and registry 5, which reads no type. No area is inside a value.
 ghost use Rattle.meaning.specs.Value.{Walk};
-ghost use Rattle.meaning.specs.Area.{inner_walk};
-ghost use Rattle.count.specs.Records.{CountsBy, Walks};
+ghost use Rattle.meaning.specs.Area.{no_walk};
+ghost use Rattle.count.specs.Records.{CountsBy};
 
-use crate::Counted;
+use crate::Level;
 use crate::row::row;
+use registry::registries::{Srv6Sid, Unregistered};
 
-// The records of a value of registry 4, or 5; no area is inside.
-pub fn nested_value(srv6: bool, kind: u8, value: &[u8]) -> usize
-    ensures { (walk : Walk) → CountsBy walk (cond srv6 4 5) kind value.now result }
+// The records of a value of registry 4, whatever would walk an area inside it.
+pub fn srv6_sid(kind: u8, value: &[u8]) -> usize
+    ensures { (walk : Walk) → CountsBy walk 4 kind value.now result }
 {
-    if srv6 {
-        if kind == 1 {
-            return row(value.len(), 4, 4, 4);
-        }
+    match kind {
+        1 => row(value.len(), 4, 4, 4),
+        _ => 1,
     }
-    1
 }
 
-// Counts an area of registry 4, or 5.
-pub fn nested_area(area: &[u8], srv6: bool) -> Counted
-    requires { length area.now < 2 ^ 32 }
-    ensures { Walks (inner_walk usual) (cond srv6 4 5) area.now result }
-{
-    let n = area.len();
-    if n == 0 {
-        return Counted {
-            covered: 0,
-            records: 0,
-        };
+impl Level for Srv6Sid {
+    ghost number = { λ level. 4 };
+
+    ghost inside = { no_walk };
+
+    // The records of a value of registry 4.
+    fn records(self, kind: u8, value: &[u8]) -> usize {
+        srv6_sid(kind, value)
     }
-    let mut at = 0;
-    let mut records = 1;
-    while 2 <= n - at {
-        let length = 2 + area[at + 1] as usize;
-        if n - at < length {
-            break;
-        }
-        let end = at + length;
-        records = records + 3 + nested_value(srv6, area[at], &area[at + 2..end]);
-        at = end;
-    }
-    Counted {
-        covered: at,
-        records,
+}
+
+impl Level for Unregistered {
+    ghost number = { λ level. 5 };
+
+    ghost inside = { no_walk };
+
+    // One: no type is read.
+    fn records(self, _kind: u8, _value: &[u8]) -> usize {
+        1
     }
 }

@@ -1,10 +1,14 @@
-// The records of a value, by its registry and its type.
+// The records of a value, by its registry and its type, which is an octet of the packet: any may stand there. An arm has the numbers
+// of a row of the table.
 ghost use Rattle.std.specs.Prelude.{◌<◌, ◌^◌, length};
 ghost use Rattle.registry.specs.Registry.{number_of};
+ghost use Rattle.meaning.specs.Table.{usual};
+ghost use Rattle.meaning.specs.Area.{inner_walk};
 ghost use Rattle.count.specs.Records.{Counts};
 
+use crate::Level;
 use crate::field::{flags_and_push, flags_and_ranges, head_and_tail};
-use crate::nested::nested_value;
+use crate::nested::srv6_sid;
 use crate::row::row;
 use registry::Registry;
 
@@ -89,17 +93,20 @@ fn binding(kind: u8, value: &[u8]) -> usize
     }
 }
 
-// The records of a value.
-pub fn value_records(registry: Registry, kind: u8, value: &[u8]) -> usize
-    requires { length value.now < 2 ^ 32 }
-    ensures { Counts (number_of registry) kind value.now result }
-{
-    match registry {
-        Registry::Neighbor => neighbor(kind, value),
-        Registry::Prefix => prefix(kind, value),
-        Registry::RouterCapability => router_capability(kind, value),
-        Registry::Binding => binding(kind, value),
-        Registry::Srv6Sid => nested_value(true, kind, value),
-        Registry::Unregistered => nested_value(false, kind, value),
+impl Level for Registry {
+    ghost number = { number_of };
+
+    ghost inside = { inner_walk usual };
+
+    // The records of a value, by its registry.
+    fn records(self, kind: u8, value: &[u8]) -> usize {
+        match self {
+            Registry::Neighbor => neighbor(kind, value),
+            Registry::Prefix => prefix(kind, value),
+            Registry::RouterCapability => router_capability(kind, value),
+            Registry::Binding => binding(kind, value),
+            Registry::Srv6Sid => srv6_sid(kind, value),
+            Registry::Unregistered => 1,
+        }
     }
 }

@@ -1,62 +1,33 @@
 // Registry 3: sub-TLVs of a SID/label binding (TLVs 149 and 150).
-ghost use Rattle.readings.specs.Reading.{by_row, reading, Asks, Decodes};
+ghost use Rattle.fields.specs.Stretches.{of};
+ghost use Rattle.readings.specs.Reading.{by_row, Asks, Reads};
 
-use fields::Source;
 use fields::sid::sid;
-use readings::rows::octet_and_sid;
-use readings::{Decoded, Taken};
-use registry::registries::Binding;
+use fields::stretch::Stretch;
+use readings::octet_and_sid;
+use store::layout::Layout;
+use store::pen::Pen;
 use tape::label::Label;
-use tape::{Octet, Position};
 
 // SID/Label (RFC 8667, sections 2.3 and 2.4.5).
-fn sid_label(
-    value: &[u8],
-    source: Source,
-    tape: &mut [u64],
-    slim: bool,
-    position: Position,
-) -> Decoded
-    requires { Asks slim (by_row 3 1 source.registry) value source.base tape position }
-    ensures { Decodes slim (by_row 3 1 source.registry) value source.base tape position result }
+fn sid_label<L: Layout>(value: Stretch, pen: &mut Pen<'_, L>) -> Option<usize>
+    requires { Asks L.SLIM (of (by_row 3 1) value) pen.old }
+    ensures { Reads L.SLIM (of (by_row 3 1) value.entry) pen.old pen.new result }
 {
-    if value.len() < 3 {
-        return Decoded {
-            taken: Taken::Nothing,
-            next: position,
-        };
+    if value.octets.len() < 3 {
+        return None;
     }
-    let shown = sid(value, source, Label::SID, 0, tape, slim, position);
-    let covered = shown.covered;
-    let next = shown.next;
-    Decoded {
-        taken: Taken::Octets(covered),
-        next,
-    }
+    Some(sid(value, Label::Sid, 0, pen))
 }
 
 // A value by its type.
-pub fn binding(
-    value: &[u8],
-    kind: u8,
-    base: Octet,
-    tape: &mut [u64],
-    slim: bool,
-    at: Position,
-) -> Decoded
-    requires { Asks slim (reading 3 kind) value base tape at }
-    ensures { Decodes slim (reading 3 kind) value base tape at result }
+pub fn binding<L: Layout>(value: Stretch, kind: u8, pen: &mut Pen<'_, L>) -> Option<usize>
+    requires { Asks L.SLIM (of (by_row 3 kind) value) pen.old }
+    ensures { Reads L.SLIM (of (by_row 3 kind) value.entry) pen.old pen.new result }
 {
-    let source = Source {
-        registry: Binding::NUMBER as u8,
-        base,
-    };
     match kind {
-        1 => sid_label(value, source, tape, slim, at),
-        3 => octet_and_sid(value, source, Label::ALGORITHM, tape, slim, at),
-        _ => Decoded {
-            taken: Taken::Nothing,
-            next: at,
-        },
+        1 => sid_label(value, pen),
+        3 => octet_and_sid(value, Label::Algorithm, pen),
+        _ => None,
     }
 }

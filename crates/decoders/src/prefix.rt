@@ -1,122 +1,54 @@
 // Registry 1: sub-TLVs of a prefix (TLVs 27, 135, 235, 236 and 237).
-ghost use Rattle.std.specs.Prelude.{◌≡◌, true, ◌+◌, ◌≤◌, ◌<◌, ◌^◌, length};
-ghost use Rattle.octets.specs.BigEndian.{is_width};
-ghost use Rattle.tape.specs.Laid.{RoomFor, Lays};
-ghost use Rattle.readings.specs.Reading.{by_row, reading, Asks, Decodes};
-ghost use Rattle.readings.specs.Rows.{number_array, end_head};
+ghost use Rattle.std.specs.Prelude.{◌≡◌, ◌≤◌, length};
+ghost use Rattle.store.specs.Pen.{HasRoom, Writes};
+ghost use Rattle.fields.specs.Stretches.{of};
+ghost use Rattle.readings.specs.Reading.{by_row, Asks, Reads};
+ghost use Rattle.readings.specs.Rows.{end_head};
 
-use fields::Source;
-use fields::part::{flag, number8, number16};
-use readings::rows::{ipv4, ipv6, number_array, octet_and_sid};
-use readings::{Decoded, Taken};
-use registry::registries::Prefix;
+use fields::part::{flag, number};
+use fields::stretch::Stretch;
+use readings::{address, number_array, octet_and_sid};
+use store::layout::Layout;
+use store::pen::Pen;
 use tape::label::Label;
 use tape::shape::Shape;
-use tape::{Octet, Position};
-
-// Administrative tags of one width (RFC 5130, sections 3.1 and 3.2).
-fn tags(
-    value: &[u8],
-    source: Source,
-    shape: u8,
-    width: usize,
-    tape: &mut [u64],
-    slim: bool,
-    position: Position,
-) -> Decoded
-    requires { (is_width width ≡ true) × Asks slim (number_array width 34 55 shape width source.registry) value source.base tape position }
-    ensures { Decodes slim (number_array width 34 55 shape width source.registry) value source.base tape position result }
-{
-    number_array(
-        value,
-        source,
-        width,
-        Label::TAGS,
-        Label::TAG,
-        shape,
-        width,
-        tape,
-        slim,
-        position,
-    )
-}
 
 // Prefix attribute flags (RFC 7794, section 2.1): X | R | N | ...
-fn prefix_attributes(
-    value: &[u8],
-    source: Source,
-    tape: &mut [u64],
-    slim: bool,
-    position: Position,
-) -> Decoded
-    requires { Asks slim (by_row 1 4 source.registry) value source.base tape position }
-    ensures { Decodes slim (by_row 1 4 source.registry) value source.base tape position result }
+fn prefix_attributes<L: Layout>(value: Stretch, pen: &mut Pen<'_, L>) -> Option<usize>
+    requires { Asks L.SLIM (of (by_row 1 4) value) pen.old }
+    ensures { Reads L.SLIM (of (by_row 1 4) value.entry) pen.old pen.new result }
 {
-    if value.len() < 1 {
-        return Decoded {
-            taken: Taken::Nothing,
-            next: position,
-        };
+    if value.octets.len() < 1 {
+        return None;
     }
-    let second = number8(value, source, Label::FLAGS, 0, tape, slim, position);
-    let third = flag(value, source, Label::FLAG_X, 0x80, tape, slim, second);
-    let fourth = flag(value, source, Label::FLAG_R, 0x40, tape, slim, third);
-    let next = flag(value, source, Label::FLAG_N, 0x20, tape, slim, fourth);
-    Decoded {
-        taken: Taken::Octets(1),
-        next,
-    }
+    number::<1, L>(value, Label::Flags, 0, pen);
+    flag(value, Label::FlagX, 0x80, pen);
+    flag(value, Label::FlagR, 0x40, pen);
+    flag(value, Label::FlagN, 0x20, pen);
+    Some(1)
 }
 
 // What stands before the SID of an SRv6 End SID (RFC 9352, section 7.2): Flags | Endpoint Behavior.
-pub fn end_head(
-    value: &[u8],
-    source: Source,
-    tape: &mut [u64],
-    slim: bool,
-    position: Position,
-) -> Position
-    requires { (3 ≤ length value.now) × (source.base.0 + length value.now < 2 ^ 32) × RoomFor slim tape.old (position.0 + 2) }
-    ensures { Lays slim (end_head source.registry value.now source.base.0) tape position result }
+pub fn end_head<L: Layout>(value: Stretch, pen: &mut Pen<'_, L>)
+    requires { (3 ≤ length value.octets.now) × HasRoom L.SLIM pen.old 2 }
+    ensures { Writes L.SLIM (of end_head value.entry) pen.old pen.new }
 {
-    let second = number8(value, source, Label::FLAGS, 0, tape, slim, position);
-    number16(
-        value,
-        source,
-        Label::ENDPOINT_BEHAVIOR,
-        1,
-        tape,
-        slim,
-        second,
-    )
+    number::<1, L>(value, Label::Flags, 0, pen);
+    number::<2, L>(value, Label::EndpointBehavior, 1, pen);
 }
 
-// A value by its type; type 5 holds an area of its own.
-pub fn prefix(
-    value: &[u8],
-    kind: u8,
-    base: Octet,
-    tape: &mut [u64],
-    slim: bool,
-    at: Position,
-) -> Decoded
-    requires { (kind ≡ 5 → ⊥) × Asks slim (reading 1 kind) value base tape at }
-    ensures { Decodes slim (reading 1 kind) value base tape at result }
+// A value by its type; type 5 holds an area of its own. The types 1 and 2 are tags (RFC 5130, sections 3.1 and 3.2).
+pub fn prefix<L: Layout>(value: Stretch, kind: u8, pen: &mut Pen<'_, L>) -> Option<usize>
+    requires { (kind ≡ 5 → ⊥) × Asks L.SLIM (of (by_row 1 kind) value) pen.old }
+    ensures { Reads L.SLIM (of (by_row 1 kind) value.entry) pen.old pen.new result }
 {
-    let source = Source {
-        registry: Prefix::NUMBER as u8,
-        base,
-    };
     match kind {
-        1 => tags(value, source, Shape::U32, 4, tape, slim, at),
-        2 => tags(value, source, Shape::U64, 8, tape, slim, at),
-        3 => octet_and_sid(value, source, Label::ALGORITHM, tape, slim, at),
-        4 => prefix_attributes(value, source, tape, slim, at),
-        11 => ipv4(value, source, Label::IPV4_SOURCE_ROUTER_ID, tape, slim, at),
-        12 => ipv6(value, source, Label::IPV6_SOURCE_ROUTER_ID, tape, slim, at),
-        _ => Decoded {
-            taken: Taken::Nothing,
-            next: at,
-        },
+        1 => number_array::<4, L>(value, 4, Label::Tags, Label::Tag, pen),
+        2 => number_array::<8, L>(value, 8, Label::Tags, Label::Tag, pen),
+        3 => octet_and_sid(value, Label::Algorithm, pen),
+        4 => prefix_attributes(value, pen),
+        11 => address(value, Label::Ipv4SourceRouterId, Shape::Ipv4, 4, pen),
+        12 => address(value, Label::Ipv6SourceRouterId, Shape::Ipv6, 16, pen),
+        _ => None,
     }
 }

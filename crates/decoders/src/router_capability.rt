@@ -1,145 +1,41 @@
 // Registry 2: sub-TLVs of a router capability (TLV 242).
 ghost use Rattle.std.specs.Prelude.{◌≡◌};
-ghost use Rattle.readings.specs.Reading.{by_row, reading, Asks, Decodes};
-ghost use Rattle.readings.specs.Rows.{number_array};
+ghost use Rattle.fields.specs.Stretches.{of};
+ghost use Rattle.readings.specs.Reading.{by_row, Asks, Reads};
 
-use fields::Source;
-use fields::array::{msds, ranges};
-use fields::part::number8;
-use readings::rows::{ipv4, ipv6, number_array};
-use readings::{Decoded, Taken};
-use registry::registries::RouterCapability;
+use fields::array::{Msds, Ranges, array};
+use fields::part::number;
+use fields::stretch::Stretch;
+use readings::{address, number_array, one_number};
+use store::layout::Layout;
+use store::pen::Pen;
 use tape::label::Label;
 use tape::shape::Shape;
-use tape::{Octet, Position};
 
 // SR-Capabilities and SR Local Block (RFC 8667, sections 3.1 and 3.3): Flags | ranges.
-fn flags_and_ranges(
-    value: &[u8],
-    source: Source,
-    tape: &mut [u64],
-    slim: bool,
-    position: Position,
-) -> Decoded
-    requires { Asks slim (by_row 2 2 source.registry) value source.base tape position }
-    ensures { Decodes slim (by_row 2 2 source.registry) value source.base tape position result }
+fn flags_and_ranges<L: Layout>(value: Stretch, pen: &mut Pen<'_, L>) -> Option<usize>
+    requires { Asks L.SLIM (of (by_row 2 2) value) pen.old }
+    ensures { Reads L.SLIM (of (by_row 2 2) value.entry) pen.old pen.new result }
 {
-    let n = value.len();
-    if n < 1 {
-        return Decoded {
-            taken: Taken::Nothing,
-            next: position,
-        };
+    if value.octets.len() < 1 {
+        return None;
     }
-    let second = number8(value, source, Label::FLAGS, 0, tape, slim, position);
-    let behind = Source {
-        registry: source.registry,
-        base: Octet(source.base.0 + 1),
-    };
-    let shown = ranges(&value[1..n], behind, tape, slim, second);
-    let covered = shown.covered;
-    let next = shown.next;
-    Decoded {
-        taken: Taken::Octets(1 + covered),
-        next,
-    }
+    number::<1, L>(value, Label::Flags, 0, pen);
+    Some(1 + array(value.from(1), Label::Ranges, Ranges, pen))
 }
 
-// SR-Algorithm (RFC 8667, section 3.2).
-fn algorithms(
-    value: &[u8],
-    source: Source,
-    tape: &mut [u64],
-    slim: bool,
-    position: Position,
-) -> Decoded
-    requires { Asks slim (number_array 0 41 56 0 1 source.registry) value source.base tape position }
-    ensures { Decodes slim (number_array 0 41 56 0 1 source.registry) value source.base tape position result }
+// A value by its type; type 25 holds an area of its own. Type 23 is Node MSD (RFC 8491, section 2), type 24 SRMS preference (RFC 8667, section 3.4).
+pub fn router_capability<L: Layout>(value: Stretch, kind: u8, pen: &mut Pen<'_, L>) -> Option<usize>
+    requires { (kind ≡ 25 → ⊥) × Asks L.SLIM (of (by_row 2 kind) value) pen.old }
+    ensures { Reads L.SLIM (of (by_row 2 kind) value.entry) pen.old pen.new result }
 {
-    number_array(
-        value,
-        source,
-        0,
-        Label::ALGORITHMS,
-        Label::ALGORITHM_ELEMENT,
-        Shape::U8,
-        1,
-        tape,
-        slim,
-        position,
-    )
-}
-
-// Node MSD (RFC 8491, section 2): MSD-Type | MSD-Value, and so on.
-fn node_msd(
-    value: &[u8],
-    source: Source,
-    tape: &mut [u64],
-    slim: bool,
-    position: Position,
-) -> Decoded
-    requires { Asks slim (by_row 2 23 source.registry) value source.base tape position }
-    ensures { Decodes slim (by_row 2 23 source.registry) value source.base tape position result }
-{
-    let shown = msds(value, source, tape, slim, position);
-    let covered = shown.covered;
-    let next = shown.next;
-    Decoded {
-        taken: Taken::Octets(covered),
-        next,
-    }
-}
-
-// SRMS preference (RFC 8667, section 3.4).
-fn preference(
-    value: &[u8],
-    source: Source,
-    tape: &mut [u64],
-    slim: bool,
-    position: Position,
-) -> Decoded
-    requires { Asks slim (by_row 2 24 source.registry) value source.base tape position }
-    ensures { Decodes slim (by_row 2 24 source.registry) value source.base tape position result }
-{
-    if value.len() < 1 {
-        return Decoded {
-            taken: Taken::Nothing,
-            next: position,
-        };
-    }
-    let next = number8(value, source, Label::PREFERENCE, 0, tape, slim, position);
-    Decoded {
-        taken: Taken::Octets(1),
-        next,
-    }
-}
-
-// A value by its type; type 25 holds an area of its own.
-pub fn router_capability(
-    value: &[u8],
-    kind: u8,
-    base: Octet,
-    tape: &mut [u64],
-    slim: bool,
-    at: Position,
-) -> Decoded
-    requires { (kind ≡ 25 → ⊥) × Asks slim (reading 2 kind) value base tape at }
-    ensures { Decodes slim (reading 2 kind) value base tape at result }
-{
-    let source = Source {
-        registry: RouterCapability::NUMBER as u8,
-        base,
-    };
     match kind {
-        2 | 22 => flags_and_ranges(value, source, tape, slim, at),
-        11 => ipv4(value, source, Label::IPV4_TE_ROUTER_ID, tape, slim, at),
-        12 => ipv6(value, source, Label::IPV6_TE_ROUTER_ID, tape, slim, at),
-        19 => algorithms(value, source, tape, slim, at),
-        23 => node_msd(value, source, tape, slim, at),
-        24 => preference(value, source, tape, slim, at),
-        _ => Decoded {
-            taken: Taken::Nothing,
-            next: at,
-        },
+        2 | 22 => flags_and_ranges(value, pen),
+        11 => address(value, Label::Ipv4TeRouterId, Shape::Ipv4, 4, pen),
+        12 => address(value, Label::Ipv6TeRouterId, Shape::Ipv6, 16, pen),
+        19 => number_array::<1, L>(value, 0, Label::Algorithms, Label::AlgorithmElement, pen),
+        23 => Some(array(value, Label::Msds, Msds, pen)),
+        24 => one_number::<1, L>(value, Label::Preference, 0, pen),
+        _ => None,
     }
 }

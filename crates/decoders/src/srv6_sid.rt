@@ -1,77 +1,35 @@
 // Registry 4: sub-sub-TLVs of an SRv6 SID.
-ghost use Rattle.readings.specs.Reading.{by_row, reading, Asks, Decodes};
+ghost use Rattle.fields.specs.Stretches.{of};
+ghost use Rattle.readings.specs.Reading.{by_row, Asks, Reads};
 
-use fields::Source;
-use fields::part::number8;
-use readings::{Decoded, Taken};
-use registry::registries::Srv6Sid;
+use fields::part::number;
+use fields::stretch::Stretch;
+use store::layout::Layout;
+use store::pen::Pen;
 use tape::label::Label;
-use tape::{Octet, Position};
 
 // SRv6 SID Structure (RFC 9352, section 9): LB Length | LN Length | Fun. Length | Arg. Length.
-fn sid_structure(
-    value: &[u8],
-    source: Source,
-    tape: &mut [u64],
-    slim: bool,
-    position: Position,
-) -> Decoded
-    requires { Asks slim (by_row 4 1 source.registry) value source.base tape position }
-    ensures { Decodes slim (by_row 4 1 source.registry) value source.base tape position result }
+fn sid_structure<L: Layout>(value: Stretch, pen: &mut Pen<'_, L>) -> Option<usize>
+    requires { Asks L.SLIM (of (by_row 4 1) value) pen.old }
+    ensures { Reads L.SLIM (of (by_row 4 1) value.entry) pen.old pen.new result }
 {
-    if value.len() < 4 {
-        return Decoded {
-            taken: Taken::Nothing,
-            next: position,
-        };
+    if value.octets.len() < 4 {
+        return None;
     }
-    let second = number8(
-        value,
-        source,
-        Label::LOCATOR_BLOCK_LENGTH,
-        0,
-        tape,
-        slim,
-        position,
-    );
-    let third = number8(
-        value,
-        source,
-        Label::LOCATOR_NODE_LENGTH,
-        1,
-        tape,
-        slim,
-        second,
-    );
-    let fourth = number8(value, source, Label::FUNCTION_LENGTH, 2, tape, slim, third);
-    let next = number8(value, source, Label::ARGUMENT_LENGTH, 3, tape, slim, fourth);
-    Decoded {
-        taken: Taken::Octets(4),
-        next,
-    }
+    number::<1, L>(value, Label::LocatorBlockLength, 0, pen);
+    number::<1, L>(value, Label::LocatorNodeLength, 1, pen);
+    number::<1, L>(value, Label::FunctionLength, 2, pen);
+    number::<1, L>(value, Label::ArgumentLength, 3, pen);
+    Some(4)
 }
 
 // A value by its type.
-pub fn srv6_sid(
-    value: &[u8],
-    kind: u8,
-    base: Octet,
-    tape: &mut [u64],
-    slim: bool,
-    at: Position,
-) -> Decoded
-    requires { Asks slim (reading 4 kind) value base tape at }
-    ensures { Decodes slim (reading 4 kind) value base tape at result }
+pub fn srv6_sid<L: Layout>(value: Stretch, kind: u8, pen: &mut Pen<'_, L>) -> Option<usize>
+    requires { Asks L.SLIM (of (by_row 4 kind) value) pen.old }
+    ensures { Reads L.SLIM (of (by_row 4 kind) value.entry) pen.old pen.new result }
 {
-    let source = Source {
-        registry: Srv6Sid::NUMBER as u8,
-        base,
-    };
     match kind {
-        1 => sid_structure(value, source, tape, slim, at),
-        _ => Decoded {
-            taken: Taken::Nothing,
-            next: at,
-        },
+        1 => sid_structure(value, pen),
+        _ => None,
     }
 }

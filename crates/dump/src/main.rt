@@ -2,20 +2,21 @@
 // area onto a clear tape and prints the outcome, then the records. A refusal prints the first line only.
 #![tactic(auto)]
 
-ghost use Rattle.std.specs.Prelude.{◌≡◌, ◌≤◌, true, length, IfOk};
-ghost use Rattle.outcome.specs.Call.{Gives};
+ghost use Rattle.std.specs.Prelude.{◌≡◌, true};
+ghost use Rattle.outcome.specs.Call.{Gives, numbers_of};
 ghost use Rattle.calls.specs.Calls.{read_call};
 ghost use Rattle.meaning.specs.Dump.{dump_call, columns};
+ghost use Rattle.dump.specs.Answered.{answered};
 
 use calls::{clear, read};
-use octets::read::{octet, read_be_u32};
+use input::read_full;
+use octets::read::read_be;
 use outcome::Outcome;
 use std::io;
-use std::io::Read;
 use tape::{Octet, Position, Record};
 
 // The answer to an input under 5 octets, or with an area over `LONGEST`.
-const NOT_TAKEN: u8 = 10;
+const NOT_TAKEN: u64 = 10;
 
 // The longest area that is taken.
 const LONGEST: usize = 768;
@@ -29,20 +30,27 @@ const SLIM: bool = true;
 // The words of the tape: room for the 1 + 7n/3 records that the longest area can need.
 const WORDS: usize = 4 + 4 * (1 + 7 * LONGEST / 3);
 
-// What the program answers to its input: 10 by its length, or a push of its area onto the tape.
-fn dump_call(input: &[u8], tape: &mut [u64]) -> Outcome
-    ensures { Gives (dump_call input.now tape.old) result tape.new }
+// What the program answers to its input: nothing by its length, or a push of its area onto the tape.
+fn dump_call(input: &[u8], tape: &mut [u64]) -> Option<Outcome>
+    ensures { Gives (dump_call input.now tape.old) (answered result) tape.new }
 {
     let n = input.len();
     if n < 5 {
-        return Outcome::refused(NOT_TAKEN);
+        return None;
     }
     if LONGEST < n - 5 {
-        return Outcome::refused(NOT_TAKEN);
+        return None;
     }
-    let registry = octet(input, 0) as u64;
-    let base = read_be_u32(input, 1) as usize;
-    subtlv::push(&input[5..], Octet(base), registry, tape, SLIM)
+    let registry = input[0] as u64;
+    let base = read_be::<4>(input, 1) as usize;
+    Some(subtlv::push(&input[5..], Octet(base), registry, tape, SLIM))
+}
+
+// The four numbers of an answer.
+fn numbers(answer: Option<Outcome>) -> [u64; 4]
+    ensures { result ≡ numbers_of (answered answer) }
+{
+    answer.map_or([NOT_TAKEN, 0, 0, 0], outcome::numbers)
 }
 
 // The columns of a record: position, label, shape, registry, words 1 to 5.
@@ -67,23 +75,7 @@ fn columns_at(tape: &[u64], at: usize) -> [u64; 9]
     ensures { result ≡ columns at (read_call true tape.now at).«record» }
 {
     let reading = read(tape, SLIM, Position(at));
-    let record = reading.record;
-    columns(record, at)
-}
-
-// Reads until `octets` is full or the input ends, and gives how many octets it put at the front.
-fn read_full(input: &mut impl Read, octets: &mut [u8]) -> io::Result<usize>
-    ensures { IfOk result (λ n. n ≤ length octets.new) }
-{
-    let mut done = 0;
-    while done < octets.len() {
-        let n = input.read(&mut octets[done..])?;
-        if n == 0 {
-            break;
-        }
-        done += n;
-    }
-    Ok(done)
+    columns(reading.unwrap_or(Record::zeros()), at)
 }
 
 // Prints numbers on one line, a space between two.
@@ -97,14 +89,13 @@ fn print_line(rt: &impl Print, numbers: &[u64]) -> io::Result<()> {
     rt.println("")
 }
 
-// Prints what the call gave, then the records.
-fn print_all(rt: &impl Print, outcome: Outcome, tape: &[u64]) -> io::Result<()> {
-    let written = outcome.written;
-    let numbers = outcome.numbers();
-    print_line(rt, &numbers)?;
-    for at in 0..written {
-        let line = columns_at(tape, at);
-        print_line(rt, &line)?;
+// Prints what the input is answered with, then the records.
+fn print_all(rt: &impl Print, answer: Option<Outcome>, tape: &[u64]) -> io::Result<()> {
+    print_line(rt, &numbers(answer))?;
+    if let Some(Ok(done)) = answer {
+        for at in 0..done.written {
+            print_line(rt, &columns_at(tape, at))?;
+        }
     }
     Ok(())
 }
@@ -114,7 +105,7 @@ fn main(rt: HostRuntime) -> io::Result<()> {
     let mut input = [0u8; READ];
     let n = read_full(&mut rt.reader(), &mut input)?;
     let mut tape = [0u64; WORDS];
-    clear(&mut tape, SLIM);
-    let outcome = dump_call(&input[..n], &mut tape);
-    print_all(&rt, outcome, &tape)
+    clear(&mut tape, SLIM).unwrap();
+    let answer = dump_call(&input[..n], &mut tape);
+    print_all(&rt, answer, &tape)
 }

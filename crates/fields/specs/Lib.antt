@@ -1,3 +1,5 @@
+pub mod Stretches
+pub mod StretchLaws
 pub mod Shows
 pub mod ShowsLaws
 pub mod Cutting

@@ -9,8 +9,7 @@ use Rattle.tape.specs.Forest.{none, leaf}
 use Rattle.meaning.specs.Label.{Label, number}
 use Rattle.meaning.specs.Tree.{content}
 use Rattle.meaning.specs.Sid.{sid_trees, sid_end}
-use Rattle.fields.specs.Shows.{Shows, sid_width, sid_number}
-use Rattle.fields.specs.declared.Shown.{Shown}
+use Rattle.fields.specs.Shows.{sid_width, sid_number}
 
 module _ (v : List ℕ) (at : ℕ) where
   -- 4 octets or more are left
@@ -42,16 +41,10 @@ module _ (v : List ℕ) (at : ℕ) where
       go false = refl
 
   -- .. of that width
-  sid_ends : at + 3 ≤ length v → sid_end v at ≡ at + sid_width v at
+  pub sid_ends : at + 3 ≤ length v → sid_end v at ≡ at + sid_width v at
   unfolding sid_end
   sid_ends there = rw (le-leb (at + 3) (length v) there) (go (leb (at + 4) (length v)))
     where
       go : (b : Bool) → cond b (at + 4) (at + 3) ≡ at + cond b 4 3
       go true = refl
       go false = refl
-
-  -- so what is laid by its width and its number is the definition's SID
-  pub shown_sid : (label : Label) (registry base : ℕ) {slim : Bool} {t u : List ℕ} {position : ℕ} {r : Shown} → at + 3 ≤ length v
-      → Shows slim (at + sid_width v at) (leaf (content (number label) 2 registry (base + at) (base + at + sid_width v at) (sid_number v at)) none) t u position r
-      → Shows slim (sid_end v at) (sid_trees label registry v base at) t u position r
-  shown_sid label registry base there h = rw (sid_ends there, sid_shown label registry base there) h

@@ -1,219 +1,166 @@
-// Arrays (document 01, 'The registries' and 'Ranges'): as many elements as fit, and then the array in front of them.
-ghost use Rattle.std.specs.Prelude.{◌≡◌, true, ◌+◌, ◌≤◌, ◌<◌, ◌^◌, length, drop};
+// Arrays (document 01, 'The registries' and 'Ranges'): as many elements as fit, and the array in front of them. No iterator cuts them:
+// it would be a type with a model of its own, for one loop.
+ghost use Rattle.std.specs.Prelude.{◌≡◌, true, ℕ, ◌+◌, ◌<◌, ◌≤◌, List, length};
 ghost use Rattle.octets.specs.BigEndian.{is_width};
-ghost use Rattle.tape.specs.Tape.{put_at};
-ghost use Rattle.tape.specs.Record.{container_record};
-ghost use Rattle.tape.specs.Laid.{Room, RoomFor, Lays};
-ghost use Rattle.meaning.specs.Tree.{content};
+ghost use Rattle.tape.specs.Code.{label_code};
+ghost use Rattle.tape.specs.Forest.{Forest, size};
+ghost use Rattle.store.specs.Pen.{HasRoom, Writes};
+ghost use Rattle.meaning.specs.Complete.{complete};
 ghost use Rattle.meaning.specs.Cut.{pieces, total};
 ghost use Rattle.meaning.specs.Frame.{whole, range_length};
-ghost use Rattle.meaning.specs.Field.{msds as msd_element, ranges as range_element};
+ghost use Rattle.meaning.specs.FrameLaws.{whole_fits, whole_is, range_fits, range_eight};
+ghost use Rattle.meaning.specs.Field.{msds, ranges};
 ghost use Rattle.meaning.specs.Array.{element_trees};
-ghost use Rattle.fields.specs.Shows.{LaysUpTo, numbers_in, msds_in, ranges_in};
+ghost use Rattle.fields.specs.Shows.{WritesUpTo, number_shape, number_trees, array_by};
+ghost use Rattle.fields.specs.Stretches.{of, octets_of};
 
-use crate::part::{number, number8, number24};
+use crate::part::number;
+use crate::piece::{range_length, whole};
 use crate::sid::sid;
-use crate::{Shown, Source};
-use store::lay;
+use crate::stretch::Stretch;
+use store::layout::Layout;
+use store::pen::Pen;
 use tape::label::Label;
 use tape::shape::Shape;
-use tape::{Content, Octet, Position};
 
-// Lays a container over `width` octets, whose children stand behind it, up to position `next`.
-pub fn container(
-    source: Source,
-    label: u8,
-    shape: u8,
-    width: usize,
-    tape: &mut [u64],
-    slim: bool,
-    position: Position,
-    next: Position,
-)
-    requires { (source.base.0 + width < 2 ^ 32) × RoomFor slim tape.old next.0 × (position.0 < next.0) }
-    ensures { tape.new ≡ put_at slim tape.old position.0 (container_record (content label shape source.registry source.base.0 (source.base.0 + width) 0) (position.0 + 1) next.0) }
-{
-    let start = source.base.0;
-    let content = Content {
-        label,
-        shape,
-        registry: source.registry,
-        start: Octet(start),
-        end: Octet(start + width),
-        number: 0,
-    };
-    lay::container(tape, slim, position, content, next)
+// What an array is made of.
+pub trait Element<L: Layout>: Copy {
+    // How many octets the complete element in front has; 0 where none stands there.
+    ghost measure: { Self → List ℕ → ℕ };
+
+    // The octets that an element may have.
+    ghost may_have: { Self → ℕ → Type 0 };
+
+    // What an element becomes: registry, octets, the place of the first.
+    ghost trees: { Self → ℕ → List ℕ → ℕ → Forest };
+
+    // How many octets the complete element in front has, if one stands there.
+    fn length(self, octets: &[u8]) -> Option<usize>
+        ensures { result ≡ complete (measure self octets.now) };
+
+    // Lays an element.
+    fn lay(self, piece: Stretch, pen: &mut Pen<'_, L>)
+        requires { may_have self (length piece.octets.now) × HasRoom L.SLIM pen.old (size (of (trees self) piece)) }
+        ensures { Writes L.SLIM (of (trees self) piece.entry) pen.old pen.new };
+
+    // An element lies in the octets that it is cut from ..
+    ghost fits: { (e : Self) (xs : List ℕ) → measure e xs ≤ length xs };
+
+    // .. and has as many as it may have.
+    ghost allowed: { (e : Self) (xs : List ℕ) → 0 < measure e xs → may_have e (measure e xs) };
 }
 
-// Lays an array of numbers of one width.
-pub fn numbers(
-    octets: &[u8],
-    source: Source,
-    array: u8,
-    label: u8,
-    shape: u8,
-    width: usize,
-    tape: &mut [u64],
-    slim: bool,
-    position: Position,
-) -> Shown
-    requires { (is_width width ≡ true) × Room slim (numbers_in array label shape width source.registry octets.now source.base.0) (length octets.now) source.base.0 tape.old position.0 }
-    ensures { LaysUpTo slim (total (pieces (whole width) octets.now)) (numbers_in array label shape width source.registry octets.now source.base.0) tape position result }
-{
-    let n = octets.len();
-    let mut at = 0;
-    let mut next = Position(position.0 + 1);
-    while width <= n - at {
-        next = number(octets, source, label, shape, at, width, tape, slim, next);
-        at = at + width;
-    }
-    container(source, array, Shape::ARRAY, at, tape, slim, position, next);
-    Shown { covered: at, next }
+// Numbers of `WIDTH` octets.
+#[derive(Clone, Copy)]
+pub struct Numbers<const WIDTH: usize> {
+    pub label: Label,
+    ghost width: { is_width WIDTH ≡ true },
 }
 
-// Lays an MSD: its type and its value.
-fn msd(octets: &[u8], source: Source, tape: &mut [u64], slim: bool, position: Position) -> Position
-    requires { (length octets.now ≡ 2) × (source.base.0 + 2 < 2 ^ 32) × RoomFor slim tape.old (position.0 + 3) }
-    ensures { Lays slim (element_trees msd_element source.registry octets.now source.base.0) tape position result }
-{
-    let first = Position(position.0 + 1);
-    let second = number8(octets, source, Label::MSD_TYPE, 0, tape, slim, first);
-    let next = number8(octets, source, Label::MSD_VALUE, 1, tape, slim, second);
-    container(
-        source,
-        Label::MSD,
-        Shape::OBJECT,
-        2,
-        tape,
-        slim,
-        position,
-        next,
-    );
-    next
+impl<const WIDTH: usize, L: Layout> Element<L> for Numbers<WIDTH> {
+    ghost measure = { λ e. whole WIDTH };
+
+    ghost may_have = { λ e n. n ≡ WIDTH };
+
+    ghost trees = { λ e. number_trees (label_code e.label) (number_shape WIDTH) WIDTH };
+
+    fn length(self, octets: &[u8]) -> Option<usize> {
+        whole(octets, WIDTH)
+    }
+
+    fn lay(self, piece: Stretch, pen: &mut Pen<'_, L>)
+        requires { (length piece.octets.now ≡ WIDTH) × HasRoom L.SLIM pen.old 1 }
+        ensures { Writes L.SLIM (of (number_trees (label_code self.entry.label) (number_shape WIDTH) WIDTH) piece.entry) pen.old pen.new }
+    {
+        number::<WIDTH, L>(piece, self.label, 0, pen);
+    }
+
+    ghost fits = { λ e xs. whole_fits WIDTH xs };
+
+    ghost allowed = { λ e xs some. whole_is WIDTH xs some };
 }
 
-// Lays the array of MSDs.
-pub fn msds(
-    octets: &[u8],
-    source: Source,
-    tape: &mut [u64],
-    slim: bool,
-    position: Position,
-) -> Shown
-    requires { Room slim (msds_in source.registry octets.now source.base.0) (length octets.now) source.base.0 tape.old position.0 }
-    ensures { LaysUpTo slim (total (pieces (whole 2) octets.now)) (msds_in source.registry octets.now source.base.0) tape position result }
-{
-    let n = octets.len();
-    let registry = source.registry;
-    let base = source.base.0;
-    let mut at = 0;
-    let mut next = Position(position.0 + 1);
-    while 2 <= n - at {
-        let here = Source {
-            registry,
-            base: Octet(base + at),
-        };
-        next = msd(&octets[at..at + 2], here, tape, slim, next);
-        at = at + 2;
+// MSDs: a type and a value.
+#[derive(Clone, Copy)]
+pub struct Msds;
+
+impl<L: Layout> Element<L> for Msds {
+    ghost measure = { λ e. whole 2 };
+
+    ghost may_have = { λ e n. n ≡ 2 };
+
+    ghost trees = { λ e. element_trees msds };
+
+    fn length(self, octets: &[u8]) -> Option<usize> {
+        whole(octets, 2)
     }
-    container(
-        source,
-        Label::MSDS,
-        Shape::ARRAY,
-        at,
-        tape,
-        slim,
-        position,
-        next,
-    );
-    Shown { covered: at, next }
+
+    fn lay(self, piece: Stretch, pen: &mut Pen<'_, L>)
+        requires { (length piece.octets.now ≡ 2) × HasRoom L.SLIM pen.old (size (of (element_trees msds) piece)) }
+        ensures { Writes L.SLIM (of (element_trees msds) piece.entry) pen.old pen.new }
+    {
+        let at = pen.next;
+        pen.skip(1);
+        number::<1, L>(piece, Label::MsdType, 0, pen);
+        number::<1, L>(piece, Label::MsdValue, 1, pen);
+        pen.container(at, piece.content(Label::Msd, Shape::Object, 0, 2, 0));
+    }
+
+    ghost fits = { λ e xs. whole_fits 2 xs };
+
+    ghost allowed = { λ e xs some. whole_is 2 xs some };
 }
 
-// The octets of the complete range in front: 3 of size, sub-type 1, length 3 or 4, and that many; 0 where none stands there.
-pub fn range_length(octets: &[u8], at: usize) -> usize
-    requires { at ≤ length octets.now }
-    ensures { result ≡ range_length (drop at octets.now) }
-{
-    let left = octets.len() - at;
-    if left < 5 {
-        return 0;
+// Ranges: a size and a SID.
+#[derive(Clone, Copy)]
+pub struct Ranges;
+
+impl<L: Layout> Element<L> for Ranges {
+    ghost measure = { λ e. range_length };
+
+    ghost may_have = { λ e n. 8 ≤ n };
+
+    ghost trees = { λ e. element_trees ranges };
+
+    fn length(self, octets: &[u8]) -> Option<usize> {
+        range_length(octets)
     }
-    if octets[at + 3] != 1 {
-        return 0;
+
+    fn lay(self, piece: Stretch, pen: &mut Pen<'_, L>)
+        requires { (8 ≤ length piece.octets.now) × HasRoom L.SLIM pen.old (size (of (element_trees ranges) piece)) }
+        ensures { Writes L.SLIM (of (element_trees ranges) piece.entry) pen.old pen.new }
+    {
+        let at = pen.next;
+        let n = piece.octets.len();
+        pen.skip(1);
+        number::<3, L>(piece, Label::RangeSize, 0, pen);
+        sid(piece, Label::RangeSid, 5, pen);
+        pen.container(at, piece.content(Label::Range, Shape::Object, 0, n, 0));
     }
-    let width = octets[at + 4];
-    if width != 3 {
-        if width != 4 {
-            return 0;
-        }
-    }
-    let length = 5 + width as usize;
-    if left < length { 0 } else { length }
+
+    ghost fits = { λ e xs. range_fits xs };
+
+    ghost allowed = { λ e xs some. range_eight xs some };
 }
 
-// Lays a range: its size and its SID.
-fn range(
-    octets: &[u8],
-    source: Source,
-    tape: &mut [u64],
-    slim: bool,
-    position: Position,
-) -> Position
-    requires { (8 ≤ length octets.now) × (source.base.0 + length octets.now < 2 ^ 32) × RoomFor slim tape.old (position.0 + 3) }
-    ensures { Lays slim (element_trees range_element source.registry octets.now source.base.0) tape position result }
+// Lays the complete elements from the first octet on, and the array in front of them; gives the octets that they have.
+pub fn array<L: Layout, E: Element<L>>(
+    octets: Stretch,
+    label: Label,
+    element: E,
+    pen: &mut Pen<'_, L>,
+) -> usize
+    requires { let trees = λ (registry : ℕ) (v : List ℕ) (base : ℕ). array_by (label_code label) registry (E.trees element registry) base (pieces (E.measure element) v) in HasRoom L.SLIM pen.old (size (of trees octets)) }
+    ensures { let trees = λ (registry : ℕ) (v : List ℕ) (base : ℕ). array_by (label_code label) registry (E.trees element registry) base (pieces (E.measure element) v) in WritesUpTo L.SLIM (total (pieces (E.measure element) (octets_of octets.entry))) (of trees octets.entry) pen.old pen.new result }
 {
-    let n = octets.len();
-    let first = Position(position.0 + 1);
-    let second = number24(octets, source, Label::RANGE_SIZE, 0, tape, slim, first);
-    let shown = sid(octets, source, Label::RANGE_SID, 5, tape, slim, second);
-    let next = shown.next;
-    container(
-        source,
-        Label::RANGE,
-        Shape::OBJECT,
-        n,
-        tape,
-        slim,
-        position,
-        next,
-    );
-    next
-}
-
-// Lays the array of ranges.
-pub fn ranges(
-    octets: &[u8],
-    source: Source,
-    tape: &mut [u64],
-    slim: bool,
-    position: Position,
-) -> Shown
-    requires { Room slim (ranges_in source.registry octets.now source.base.0) (length octets.now) source.base.0 tape.old position.0 }
-    ensures { LaysUpTo slim (total (pieces range_length octets.now)) (ranges_in source.registry octets.now source.base.0) tape position result }
-{
-    let registry = source.registry;
-    let base = source.base.0;
-    let mut at = 0;
-    let mut next = Position(position.0 + 1);
-    let mut length = range_length(octets, 0);
-    while 0 < length {
-        let here = Source {
-            registry,
-            base: Octet(base + at),
-        };
-        next = range(&octets[at..at + length], here, tape, slim, next);
-        at = at + length;
-        length = range_length(octets, at);
+    let at = pen.next;
+    pen.skip(1);
+    let mut left = octets;
+    while let Some(n) = element.length(left.octets) {
+        element.lay(left.first(n), pen);
+        left = left.from(n);
     }
-    container(
-        source,
-        Label::RANGES,
-        Shape::ARRAY,
-        at,
-        tape,
-        slim,
-        position,
-        next,
-    );
-    Shown { covered: at, next }
+    let covered = octets.octets.len() - left.octets.len();
+    pen.container(at, octets.content(label, Shape::Array, 0, covered, 0));
+    covered
 }

@@ -1,68 +1,35 @@
 // A SID (document 01, 'SID'): the octet count alone decides how wide it is.
-ghost use Rattle.std.specs.Prelude.{◌≡◌, ◌+◌, ◌≤◌, ◌<◌, ◌^◌, length};
-ghost use Rattle.tape.specs.Forest.{leaf, none};
-ghost use Rattle.tape.specs.Laid.{RoomFor};
-ghost use Rattle.meaning.specs.Tree.{content};
-ghost use Rattle.fields.specs.Shows.{LaysUpTo, sid_number, sid_width};
+ghost use Rattle.std.specs.Prelude.{◌≡◌, ◌+◌, ◌≤◌, length};
+ghost use Rattle.tape.specs.Code.{label_code};
+ghost use Rattle.store.specs.Pen.{HasRoom};
+ghost use Rattle.fields.specs.Shows.{WritesUpTo, sid_at, sid_number, sid_width};
+ghost use Rattle.fields.specs.Stretches.{of, octets_of};
 
-use crate::part::part;
-use crate::{Shown, Source};
-use octets::read::{read_be_u24, read_be_u32};
-use tape::Position;
+use crate::stretch::Stretch;
+use octets::read::read_be;
+use store::layout::Layout;
+use store::pen::Pen;
+use tape::label::Label;
 use tape::shape::Shape;
 
-// A SID's number and its width.
-#[derive(Clone, Copy)]
-struct Numbered {
-    number: u64,
-    width: usize,
-}
-
-// The SID that begins at `at`: 32 bits where 4 octets are left or more, otherwise the low 20 bits of 3.
-fn read_sid(value: &[u8], at: usize) -> Numbered
+// The width and the number of the SID that begins at `at`: 32 bits where 4 octets are left or more, otherwise the low 20 bits of 3.
+fn read_sid(value: &[u8], at: usize) -> (usize, u64)
     requires { at + 3 ≤ length value.now }
-    ensures { (result.number ≡ sid_number value.now at) × (result.width ≡ sid_width value.now at) }
+    ensures width { result.0 ≡ sid_width value.now at }
+    ensures number { result.1 ≡ sid_number value.now at }
 {
     if at + 4 <= value.len() {
-        return Numbered {
-            number: read_be_u32(value, at) as u64,
-            width: 4,
-        };
+        return (4, read_be::<4>(value, at));
     }
-    Numbered {
-        number: (read_be_u24(value, at) % 1048576) as u64,
-        width: 3,
-    }
+    (3, read_be::<3>(value, at) % 1048576)
 }
 
-// Lays the SID that begins at `at`.
-pub fn sid(
-    value: &[u8],
-    source: Source,
-    label: u8,
-    at: usize,
-    tape: &mut [u64],
-    slim: bool,
-    position: Position,
-) -> Shown
-    requires { (at + 3 ≤ length value.now) × (source.base.0 + length value.now < 2 ^ 32) × RoomFor slim tape.old (position.0 + 1) }
-    ensures { LaysUpTo slim (at + sid_width value.now at) (leaf (content label 2 source.registry (source.base.0 + at) (source.base.0 + at + sid_width value.now at) (sid_number value.now at)) none) tape position result }
+// Lays the SID that begins at `at`, and gives where it ends.
+pub fn sid<L: Layout>(value: Stretch, label: Label, at: usize, pen: &mut Pen<'_, L>) -> usize
+    requires { (at + 3 ≤ length value.octets.now) × HasRoom L.SLIM pen.old 1 }
+    ensures { WritesUpTo L.SLIM (at + sid_width (octets_of value.entry) at) (of (sid_at (label_code label) at) value.entry) pen.old pen.new result }
 {
-    let sid = read_sid(value, at);
-    let width = sid.width;
-    let next = part(
-        source,
-        label,
-        Shape::U32,
-        at,
-        width,
-        sid.number,
-        tape,
-        slim,
-        position,
-    );
-    Shown {
-        covered: at + width,
-        next,
-    }
+    let (width, number) = read_sid(value.octets, at);
+    pen.leaf(value.content(label, Shape::U32, at, width, number));
+    at + width
 }

@@ -1,5 +1,5 @@
 -- The calls walk and push, case by case, and the tape that they leave.
-use Rattle.std.specs.Prelude.{◌≡◌, ◌⊎◌, Bool, cond, List, ℕ, ◌+◌, ◌-◌, ◌≤◌, ◌<◌, get_or}
+use Rattle.std.specs.Prelude.{◌≡◌, ◌⊎◌, Bool, cond, List, ℕ, ◌+◌, ◌-◌, ◌≤◌, ◌<◌, get_or, Option, Some, None}
 use Rattle.std.proofs.Math.Path.{refl}
 use Rattle.std.proofs.Common.{sym, ap, ◌∙◌, subst, arith, length-set}
 use Rattle.std.proofs.Math.Bool.{true, false}
@@ -13,8 +13,6 @@ use Rattle.registry.specs.Registry.{number_of, registry_of}
 use Rattle.registry.specs.RegistryLaws.{registry_of_number, registry_of_past, numbered}
 use Rattle.registry.specs.declared.Registry.{Registry}
 use Rattle.registry.specs.declared.Registry.TheVariants.{Neighbor, Prefix, RouterCapability, Binding, Srv6Sid, Unregistered}
-use Rattle.registry.specs.declared.Found.{Found}
-use Rattle.registry.specs.declared.Found.TheVariants.{Known, Unknown}
 use Rattle.tape.specs.Layout.{word_of}
 use Rattle.tape.specs.Tape.{InOrder, used, room, headed, load, store}
 use Rattle.tape.specs.TapeLaws.{length_store}
@@ -86,17 +84,17 @@ number_low Unregistered = omega arith
 
 module _ (slim : Bool) (shows : Walk) (n : ℕ) (area : List ℕ) (base : ℕ) (t : List ℕ) where
   -- 1: a number that no registry has
-  pub call_unknown : registry_of n ≡ Unknown → area_call slim shows n area base t ≡ refusal 1 t
+  pub call_unknown : registry_of n ≡ None → area_call slim shows n area base t ≡ refusal 1 t
   unfolding call_in
   call_unknown unknown = rw unknown
 
   -- the number of a registry
-  pub call_known : {registry : Registry} → registry_of n ≡ Known registry → area_call slim shows n area base t ≡ area_call slim shows (number_of registry) area base t
+  pub call_known : {registry : Registry} → registry_of n ≡ Some registry → area_call slim shows n area base t ≡ area_call slim shows (number_of registry) area base t
   call_known {registry} known = rw (known, registry_of_number registry)
 
 module _ (slim : Bool) (shows : Walk) (registry : Registry) (area : List ℕ) (base : ℕ) (t : List ℕ) where
   -- a registry's number
-  known : area_call slim shows (number_of registry) area base t ≡ call_in slim shows (Known registry) area base t
+  known : area_call slim shows (number_of registry) area base t ≡ call_in slim shows (Some registry) area base t
   known = rw (registry_of_number registry)
 
   -- 2: area over 65,535 octets
@@ -137,10 +135,10 @@ module _ (P : After → Type 0) (slim : Bool) (shows : Walk) (area : List ℕ) (
       go true fits = finishes registry near good (leb-true _ _ fits)
       go false less = lacks registry
 
-  cases_in : (found : Found) → P (call_in slim shows found area base t)
+  cases_in : (found : Option Registry) → P (call_in slim shows found area base t)
   unfolding call_in
-  cases_in Unknown = refuses 1
-  cases_in (Known registry) = go (leb (length area) longest) (leb (base + length area) furthest) refl (headed slim t) refl
+  cases_in None = refuses 1
+  cases_in (Some registry) = go (leb (length area) longest) (leb (base + length area) furthest) refl (headed slim t) refl
     where
       go : (a b : Bool) → leb (base + length area) furthest ≡ b → (c : Bool) → headed slim t ≡ c
           → P (cond a (cond b (cond c (fitted slim (covered area) (shows (number_of registry) area base) t) (refusal 4 t)) (refusal 3 t)) (refusal 2 t))

@@ -1,5 +1,5 @@
 -- The examples hold, by computation.
-use Rattle.std.specs.Prelude.{◌≡◌, refl, Bool, true, false, List, [], ◌∷◌, map, ℕ, length}
+use Rattle.std.specs.Prelude.{◌≡◌, refl, [], ◌∷◌, map, ℕ, length}
 use Rattle.octets.specs.BigEndian.{big_endian}
 use Rattle.octets.specs.Mask.{kept, masked}
 use Rattle.registry.specs.Registry.{registry_of}
@@ -15,7 +15,7 @@ use Rattle.meaning.specs.Array.{element_trees, array_of}
 use Rattle.meaning.specs.Value.{field_end, taken, push_by, field_trees, fields_trees, value_trees}
 use Rattle.meaning.specs.Area.{entry_trees, walk_trees, inner_walk, walked, pushed}
 use Rattle.meaning.specs.AreaCall.{appended, fitted, call_in}
-use Rattle.meaning.specs.Examples.Example.{Case, computed, wanted, types_read}
+use Rattle.meaning.specs.Examples.Example.{types_read}
 use Rattle.meaning.specs.Examples.Cases.{cases, others, slim_cases}
 use Rattle.meaning.specs.Examples.RustCases.{rust_cases, rust_types}
 use Rattle.meaning.specs.Examples.{Hold}

@@ -1,15 +1,14 @@
 -- The calls walk and push (document 01, 'Numbers a call gives back'), from registry, area, base and tape.
-use Rattle.std.specs.Prelude.{Bool, cond, List, ℕ, ◌+◌, ◌-◌, leb, length}
+use Rattle.std.specs.Prelude.{Bool, cond, List, ℕ, ◌+◌, ◌-◌, leb, length, Option, Some, None}
 use Rattle.outcome.specs.Call.{After, refusal, no_room}
 use Rattle.registry.specs.Registry.{number_of, registry_of}
-use Rattle.registry.specs.declared.Found.{Found}
-use Rattle.registry.specs.declared.Found.TheVariants.{Known, Unknown}
 use Rattle.tape.specs.Tape.{used, room, headed, with_used, store}
 use Rattle.tape.specs.Forest.{Forest, size, flat}
 use Rattle.meaning.specs.Frame.{covered}
 use Rattle.meaning.specs.Table.{usual}
 use Rattle.meaning.specs.Value.{Walk}
 use Rattle.meaning.specs.Area.{walked, pushed}
+use Rattle.registry.specs.declared.Registry.{Registry}
 
 -- the longest area, in octets
 abbrev pub longest : ℕ
@@ -33,9 +32,9 @@ unfoldable pub fitted : Bool → ℕ → Forest → List ℕ → After
 fitted slim octets trees t = cond (leb (size trees) (room slim t - used t)) (shown slim octets trees t) (record { outcome = no_room (size trees); lent = t })
 
 -- 1: registry not 0 to 5; 2: area over 65,535 octets; 3: base + area length over 4,294,967,295; 4: the header is not in order; then 5
-unfoldable pub call_in : Bool → Walk → Found → List ℕ → ℕ → List ℕ → After
-call_in slim shows Unknown area base t = refusal 1 t
-call_in slim shows (Known registry) area base t =
+unfoldable pub call_in : Bool → Walk → Option Registry → List ℕ → ℕ → List ℕ → After
+call_in slim shows None area base t = refusal 1 t
+call_in slim shows (Some registry) area base t =
     cond (leb (length area) longest)
     (cond (leb (base + length area) furthest)
     (cond (headed slim t) (fitted slim (covered area) (shows (number_of registry) area base) t)

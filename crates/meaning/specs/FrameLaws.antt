@@ -1,6 +1,6 @@
 -- Laws of the framing.
-use Rattle.std.specs.Prelude.{◌≡◌, refl, Bool, true, false, ◌||◌, cond, List, [], ◌∷◌, ◌++◌, ℕ, suc, ◌+◌, ◌≤◌, ◌<◌, leb, eqb, length, get_or}
-use Rattle.std.proofs.Common.{arith, leb-true, le-leb, eqb-true, length-append, length-drop}
+use Rattle.std.specs.Prelude.{◌≡◌, refl, Bool, true, false, ◌&&◌, ◌||◌, cond, List, [], ◌∷◌, ◌++◌, ℕ, suc, ◌+◌, ◌≤◌, ◌<◌, leb, eqb, length, get_or}
+use Rattle.std.proofs.Common.{arith, leb-true, le-leb, eqb-true, ne_eqb, length-append, length-drop}
 use Rattle.std.proofs.lemmas.Bool.{lt-leb}
 use Rattle.std.proofs.Math.ListN.{get_or-append}
 use Rattle.std.proofs.Math.Seq.{drop-append-add, drop-length}
@@ -28,6 +28,18 @@ pub whole_is : (n : ℕ) (xs : List ℕ) → 0 < whole n xs → whole n xs ≡ n
 whole_is n xs h = rw (passed (leb n (length xs)) n h)
 
 -- entry_length
+
+pub entry_is : (xs : List ℕ) → entry_length xs ≡ whole (2 + get_or xs 1 0) xs
+unfolding entry_length
+entry_is xs = let two : 2 + get_or xs 1 0 ≡ suc (suc (get_or xs 1 0)) = omega arith in rw two refl
+
+-- an entry has two octets or more
+pub entry_two : (xs : List ℕ) → 0 < entry_length xs → 2 ≤ entry_length xs
+entry_two xs some = omega (arith, entry_is xs, whole_is (2 + get_or xs 1 0) xs (rw (entry_is xs) at some))
+
+pub entry_few : (xs : List ℕ) → length xs < 2 → entry_length xs ≡ 0
+unfolding entry_length
+entry_few xs few = rw (lt-leb (suc (suc (get_or xs 1 0))) (length xs) (omega arith)) refl
 
 pub entry_fits : (xs : List ℕ) → entry_length xs ≤ length xs
 unfolding entry_length
@@ -72,6 +84,38 @@ three_four n is = go (eqb n 3) refl
     go : (b : Bool) → eqb n 3 ≡ b → 3 ≤ n
     go true three = omega (arith, eqb-true n 3 three)
     go false other = omega (arith, eqb-true n 4 (rw other at is))
+
+-- where no range stands in front: too few octets, ..
+pub range_few : (xs : List ℕ) → length xs < 5 → range_length xs ≡ 0
+unfolding range_length
+range_few xs few = go (is_range xs)
+  where
+    go : (b : Bool) → cond b (whole (5 + get_or xs 4 0) xs) 0 ≡ 0
+    go true = rw (lt-leb (5 + get_or xs 4 0) (length xs) (omega arith)) refl
+    go false = refl
+
+-- .. another sub-type, ..
+pub range_other : (xs : List ℕ) → (get_or xs 3 0 ≡ 1 → ⊥) → range_length xs ≡ 0
+unfolding range_length
+range_other xs other = rw (ne_eqb (get_or xs 3 0) 1 other) refl
+
+-- .. another length
+pub range_neither : (xs : List ℕ) → (get_or xs 4 0 ≡ 3 → ⊥) → (get_or xs 4 0 ≡ 4 → ⊥) → range_length xs ≡ 0
+unfolding range_length
+range_neither xs not3 not4 = rw (ne_eqb (get_or xs 4 0) 3 not3, ne_eqb (get_or xs 4 0) 4 not4) (go (eqb (get_or xs 3 0) 1))
+  where
+    go : (b : Bool) → cond (b && false) (whole (5 + get_or xs 4 0) xs) 0 ≡ 0
+    go true = refl
+    go false = refl
+
+-- sub-type 1, and a length of 3 or of 4
+pub range_of_three : (xs : List ℕ) → get_or xs 3 0 ≡ 1 → get_or xs 4 0 ≡ 3 → range_length xs ≡ whole 8 xs
+unfolding range_length
+range_of_three xs one three = rw (one, three) refl
+
+pub range_of_four : (xs : List ℕ) → get_or xs 3 0 ≡ 1 → get_or xs 4 0 ≡ 4 → range_length xs ≡ whole 9 xs
+unfolding range_length
+range_of_four xs one four = rw (one, four) refl
 
 -- so a range has 8 octets or more
 pub range_eight : (xs : List ℕ) → 0 < range_length xs → 8 ≤ range_length xs

@@ -1,5 +1,7 @@
 pub mod Label
 pub mod Shape
+pub mod Complete
+pub mod CompleteLaws
 pub mod Cut
 pub mod CutLaws
 pub mod Frame

@@ -14,12 +14,10 @@ fn print_line(rt: &impl Print, registry: u64, t: u64, name: &[u8]) -> io::Result
 fn show(rt: &impl Print, registry: u64, t: u64) -> io::Result<()> {
     // Longer than every name.
     let mut text = [0u8; 64];
-    let outcome = registry::name(registry, t, &mut text);
-    let written = outcome.written;
-    if 0 < written {
-        print_line(rt, registry, t, &text[..written])?;
+    match registry::name(registry, t, &mut text) {
+        Ok(done) if 0 < done.written => print_line(rt, registry, t, &text[..done.written]),
+        _ => Ok(()),
     }
-    Ok(())
 }
 
 // Prints the names of one registry.

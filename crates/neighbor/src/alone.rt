@@ -1,102 +1,69 @@
 // Values of registry 0 that are one leaf over all their octets.
-ghost use Rattle.std.specs.Prelude.{◌≡◌, false};
-ghost use Rattle.octets.specs.BigEndian.{big_endian};
+ghost use Rattle.std.specs.Prelude.{◌≡◌, true};
+ghost use Rattle.octets.specs.BigEndian.{big_endian, is_width};
+ghost use Rattle.tape.specs.Code.{label_code, shape_code};
 ghost use Rattle.neighbor.specs.Alone.{IsAlone, Told};
 
-use octets::read::{read_be_u24, read_be_u32};
+use octets::read::read_be;
 use tape::label::Label;
 use tape::shape::Shape;
 
-// Whether a value is one leaf over all its octets, and then its label, shape and number.
+// The leaf that a value is: its label, its shape and its number.
 #[derive(Clone, Copy)]
 pub struct OneLeaf {
-    pub is: bool,
-    pub label: u8,
-    pub shape: u8,
+    pub label: Label,
+    pub shape: Shape,
     pub number: u64,
 }
 
-// More than a leaf, or less.
-fn not_alone() -> OneLeaf
-    ensures { result.is ≡ false }
+// A number of `WIDTH` octets, where the value has just these.
+fn number_alone<const WIDTH: usize>(value: &[u8], label: Label) -> Option<OneLeaf>
+    requires { is_width WIDTH ≡ true }
+    ensures { Told WIDTH (label_code label) 2 (big_endian value.now 0 WIDTH) value.now result }
 {
-    OneLeaf {
-        is: false,
-        label: 0,
-        shape: 0,
-        number: 0,
+    if value.len() != WIDTH {
+        return None;
     }
+    Some(OneLeaf {
+        label,
+        shape: Shape::U32,
+        number: read_be::<WIDTH>(value, 0),
+    })
 }
 
-// A leaf without a number.
-fn octets_alone(is: bool, label: u8, shape: u8) -> OneLeaf
-    ensures { (result.is ≡ is) × (result.label ≡ label) × (result.shape ≡ shape) × (result.number ≡ 0) }
+// An address of `width` octets, where the value has just these.
+fn address_alone(value: &[u8], label: Label, shape: Shape, width: usize) -> Option<OneLeaf>
+    ensures { Told width (label_code label) (shape_code shape) 0 value.now result }
 {
-    OneLeaf {
-        is,
+    if value.len() != width {
+        return None;
+    }
+    Some(OneLeaf {
         label,
         shape,
         number: 0,
-    }
-}
-
-// A number of 32 bits, where the value has just these.
-fn number32_alone(value: &[u8], label: u8) -> OneLeaf
-    ensures { Told 4 label 2 (big_endian value.now 0 4) value.now result }
-{
-    if value.len() != 4 {
-        return not_alone();
-    }
-    OneLeaf {
-        is: true,
-        label,
-        shape: Shape::U32,
-        number: read_be_u32(value, 0) as u64,
-    }
-}
-
-// A number of 24 bits, where the value has just these.
-fn number24_alone(value: &[u8], label: u8) -> OneLeaf
-    ensures { Told 3 label 2 (big_endian value.now 0 3) value.now result }
-{
-    if value.len() != 3 {
-        return not_alone();
-    }
-    OneLeaf {
-        is: true,
-        label,
-        shape: Shape::U32,
-        number: read_be_u24(value, 0) as u64,
-    }
+    })
 }
 
 // A value by its type: the one leaf that it is, or that it is none.
-pub fn alone(value: &[u8], kind: u8) -> OneLeaf
+pub fn alone(value: &[u8], kind: u8) -> Option<OneLeaf>
     ensures { IsAlone kind value.now result }
 {
-    let n = value.len();
     match kind {
-        3 => number32_alone(value, Label::ADMIN_GROUP),
-        4 => not_alone(),
-        6 => octets_alone(n == 4, Label::IPV4_INTERFACE_ADDRESS, Shape::IPV4),
-        8 => octets_alone(n == 4, Label::IPV4_NEIGHBOR_ADDRESS, Shape::IPV4),
-        9 => number32_alone(value, Label::MAX_BANDWIDTH),
-        10 => number32_alone(value, Label::MAX_RESERVABLE_BANDWIDTH),
-        11 => not_alone(),
-        12 => octets_alone(n == 16, Label::IPV6_INTERFACE_ADDRESS, Shape::IPV6),
-        13 => octets_alone(n == 16, Label::IPV6_NEIGHBOR_ADDRESS, Shape::IPV6),
-        18 => number24_alone(value, Label::TE_DEFAULT_METRIC),
-        31 => not_alone(),
-        32 => not_alone(),
-        33 => not_alone(),
-        34 => not_alone(),
-        35 => not_alone(),
-        36 => not_alone(),
-        37 => number32_alone(value, Label::BANDWIDTH),
-        38 => number32_alone(value, Label::BANDWIDTH),
-        39 => number32_alone(value, Label::BANDWIDTH),
-        43 => not_alone(),
-        44 => not_alone(),
-        _ => octets_alone(true, Label::VALUE, Shape::BYTES),
+        3 => number_alone::<4>(value, Label::AdminGroup),
+        6 => address_alone(value, Label::Ipv4InterfaceAddress, Shape::Ipv4, 4),
+        8 => address_alone(value, Label::Ipv4NeighborAddress, Shape::Ipv4, 4),
+        9 => number_alone::<4>(value, Label::MaxBandwidth),
+        10 => number_alone::<4>(value, Label::MaxReservableBandwidth),
+        12 => address_alone(value, Label::Ipv6InterfaceAddress, Shape::Ipv6, 16),
+        13 => address_alone(value, Label::Ipv6NeighborAddress, Shape::Ipv6, 16),
+        18 => number_alone::<3>(value, Label::TeDefaultMetric),
+        37..=39 => number_alone::<4>(value, Label::Bandwidth),
+        4 | 11 | 31..=36 | 43 | 44 => None,
+        _ => Some(OneLeaf {
+            label: Label::Value,
+            shape: Shape::Bytes,
+            number: 0,
+        }),
     }
 }

@@ -1,263 +1,124 @@
-// Registry 0: sub-TLVs of a neighbor (TLVs 22 and 222).
+// Registry 0: sub-TLVs of a neighbor (TLVs 22 and 222). `kind` is an octet of the packet: any may stand there.
 #![tactic(auto)]
 
 ghost use Rattle.std.specs.Prelude.{◌≡◌, ◌+◌, ◌≤◌, ◌<◌, ◌^◌, length};
-ghost use Rattle.tape.specs.Laid.{RoomFor, Lays};
-ghost use Rattle.readings.specs.Reading.{by_row, reading, Asks, Decodes};
-ghost use Rattle.readings.specs.Rows.{system_id, end_x_head};
+ghost use Rattle.store.specs.Pen.{HasRoom, Writes};
+ghost use Rattle.fields.specs.Stretches.{of};
+ghost use Rattle.readings.specs.Reading.{by_row, Asks, Reads};
+ghost use Rattle.readings.specs.Rows.{end_x_head, system_id};
 
-use fields::Source;
-use fields::array::numbers;
-use fields::part::{flag, number8, number16, number24, number32, part};
+use fields::array::{Numbers, array};
+use fields::part::{flag, number, octets};
 use fields::sid::sid;
-use readings::rows::{flag_and_number, ipv4, ipv6, octet_and_sid, one_number24, one_number32};
-use readings::{Decoded, Taken};
-use registry::registries::Neighbor;
+use fields::stretch::Stretch;
+use readings::{address, flag_and_number, octet_and_sid, one_number};
+use store::layout::Layout;
+use store::pen::Pen;
 use tape::label::Label;
 use tape::shape::Shape;
-use tape::{Octet, Position};
 
 pub mod alone;
 
 // Link local and remote identifiers (RFC 5307, section 1.1).
-fn link_identifiers(
-    value: &[u8],
-    source: Source,
-    tape: &mut [u64],
-    slim: bool,
-    position: Position,
-) -> Decoded
-    requires { Asks slim (by_row 0 4 source.registry) value source.base tape position }
-    ensures { Decodes slim (by_row 0 4 source.registry) value source.base tape position result }
+fn link_identifiers<L: Layout>(value: Stretch, pen: &mut Pen<'_, L>) -> Option<usize>
+    requires { Asks L.SLIM (of (by_row 0 4) value) pen.old }
+    ensures { Reads L.SLIM (of (by_row 0 4) value.entry) pen.old pen.new result }
 {
-    if value.len() < 8 {
-        return Decoded {
-            taken: Taken::Nothing,
-            next: position,
-        };
+    if value.octets.len() < 8 {
+        return None;
     }
-    let second = number32(
-        value,
-        source,
-        Label::LOCAL_IDENTIFIER,
-        0,
-        tape,
-        slim,
-        position,
-    );
-    let next = number32(
-        value,
-        source,
-        Label::REMOTE_IDENTIFIER,
-        4,
-        tape,
-        slim,
-        second,
-    );
-    Decoded {
-        taken: Taken::Octets(8),
-        next,
-    }
+    number::<4, L>(value, Label::LocalIdentifier, 0, pen);
+    number::<4, L>(value, Label::RemoteIdentifier, 4, pen);
+    Some(8)
 }
 
 // Unreserved bandwidth (RFC 5305, section 3.6): 8 numbers from the first 32 octets.
-fn unreserved_bandwidth(
-    value: &[u8],
-    source: Source,
-    tape: &mut [u64],
-    slim: bool,
-    position: Position,
-) -> Decoded
-    requires { Asks slim (by_row 0 11 source.registry) value source.base tape position }
-    ensures { Decodes slim (by_row 0 11 source.registry) value source.base tape position result }
+fn unreserved_bandwidth<L: Layout>(value: Stretch, pen: &mut Pen<'_, L>) -> Option<usize>
+    requires { Asks L.SLIM (of (by_row 0 11) value) pen.old }
+    ensures { Reads L.SLIM (of (by_row 0 11) value.entry) pen.old pen.new result }
 {
-    if value.len() < 32 {
-        return Decoded {
-            taken: Taken::Nothing,
-            next: position,
-        };
+    if value.octets.len() < 32 {
+        return None;
     }
-    let shown = numbers(
-        &value[0..32],
-        source,
-        Label::UNRESERVED_BANDWIDTH,
-        Label::BANDWIDTH_ELEMENT,
-        Shape::U32,
-        4,
-        tape,
-        slim,
-        position,
-    );
-    let covered = shown.covered;
-    let next = shown.next;
-    Decoded {
-        taken: Taken::Octets(covered),
-        next,
-    }
+    let element = Numbers::<4> {
+        label: Label::BandwidthElement,
+    };
+    Some(array(value.first(32), Label::UnreservedBandwidth, element, pen))
 }
 
 // LAN-Adj-SID (RFC 8667, section 2.2.2): Flags | Weight | Neighbor System-ID | SID/Label/Index.
-fn lan_adj_sid(
-    value: &[u8],
-    source: Source,
-    tape: &mut [u64],
-    slim: bool,
-    position: Position,
-) -> Decoded
-    requires { Asks slim (by_row 0 32 source.registry) value source.base tape position }
-    ensures { Decodes slim (by_row 0 32 source.registry) value source.base tape position result }
+fn lan_adj_sid<L: Layout>(value: Stretch, pen: &mut Pen<'_, L>) -> Option<usize>
+    requires { Asks L.SLIM (of (by_row 0 32) value) pen.old }
+    ensures { Reads L.SLIM (of (by_row 0 32) value.entry) pen.old pen.new result }
 {
-    if value.len() < 11 {
-        return Decoded {
-            taken: Taken::Nothing,
-            next: position,
-        };
+    if value.octets.len() < 11 {
+        return None;
     }
-    let second = number8(value, source, Label::FLAGS, 0, tape, slim, position);
-    let third = number8(value, source, Label::WEIGHT, 1, tape, slim, second);
-    let fourth = part(
-        source,
-        Label::NEIGHBOR_SYSTEM_ID,
-        Shape::BYTES,
-        2,
-        6,
-        0,
-        tape,
-        slim,
-        third,
-    );
-    let shown = sid(value, source, Label::SID, 8, tape, slim, fourth);
-    let covered = shown.covered;
-    let next = shown.next;
-    Decoded {
-        taken: Taken::Octets(covered),
-        next,
-    }
+    number::<1, L>(value, Label::Flags, 0, pen);
+    number::<1, L>(value, Label::Weight, 1, pen);
+    octets(value, Label::NeighborSystemId, Shape::Bytes, 2, 6, pen);
+    Some(sid(value, Label::Sid, 8, pen))
 }
 
 // Min/max link delay (RFC 8570, section 4.2): A | RESERVED | Min Delay | RESERVED | Max Delay.
-fn min_max_delay(
-    value: &[u8],
-    source: Source,
-    tape: &mut [u64],
-    slim: bool,
-    position: Position,
-) -> Decoded
-    requires { Asks slim (by_row 0 34 source.registry) value source.base tape position }
-    ensures { Decodes slim (by_row 0 34 source.registry) value source.base tape position result }
+fn min_max_delay<L: Layout>(value: Stretch, pen: &mut Pen<'_, L>) -> Option<usize>
+    requires { Asks L.SLIM (of (by_row 0 34) value) pen.old }
+    ensures { Reads L.SLIM (of (by_row 0 34) value.entry) pen.old pen.new result }
 {
-    if value.len() < 8 {
-        return Decoded {
-            taken: Taken::Nothing,
-            next: position,
-        };
+    if value.octets.len() < 8 {
+        return None;
     }
-    let second = flag(value, source, Label::ANOMALOUS, 0x80, tape, slim, position);
-    let third = number24(value, source, Label::MIN_DELAY, 1, tape, slim, second);
-    let next = number24(value, source, Label::MAX_DELAY, 5, tape, slim, third);
-    Decoded {
-        taken: Taken::Octets(8),
-        next,
-    }
+    flag(value, Label::Anomalous, 0x80, pen);
+    number::<3, L>(value, Label::MinDelay, 1, pen);
+    number::<3, L>(value, Label::MaxDelay, 5, pen);
+    Some(8)
 }
 
 // What stands before the SID of an SRv6 End.X SID (RFC 9352, section 8.1): Flags | Algorithm | Weight | Endpoint Behavior.
-pub fn end_x_head(
-    value: &[u8],
-    source: Source,
-    at: usize,
-    tape: &mut [u64],
-    slim: bool,
-    position: Position,
-) -> Position
-    requires { (at + 5 ≤ length value.now) × (source.base.0 + length value.now < 2 ^ 32) × RoomFor slim tape.old (position.0 + 4) }
-    ensures { Lays slim (end_x_head source.registry value.now source.base.0 at) tape position result }
+pub fn end_x_head<L: Layout>(value: Stretch, at: usize, pen: &mut Pen<'_, L>)
+    requires { (at + 5 ≤ length value.octets.now) × HasRoom L.SLIM pen.old 4 }
+    ensures { Writes L.SLIM (of (end_x_head at) value.entry) pen.old pen.new }
 {
-    let second = number8(value, source, Label::FLAGS, at, tape, slim, position);
-    let third = number8(value, source, Label::ALGORITHM, at + 1, tape, slim, second);
-    let fourth = number8(value, source, Label::WEIGHT, at + 2, tape, slim, third);
-    number16(
-        value,
-        source,
-        Label::ENDPOINT_BEHAVIOR,
-        at + 3,
-        tape,
-        slim,
-        fourth,
-    )
+    number::<1, L>(value, Label::Flags, at, pen);
+    number::<1, L>(value, Label::Algorithm, at + 1, pen);
+    number::<1, L>(value, Label::Weight, at + 2, pen);
+    number::<2, L>(value, Label::EndpointBehavior, at + 3, pen);
 }
 
-// Lays the neighbor's system id, which stands first on a LAN (RFC 9352, section 8.2), where it has octets.
-pub fn system_id(
-    source: Source,
-    width: usize,
-    tape: &mut [u64],
-    slim: bool,
-    position: Position,
-) -> Position
-    requires { (source.base.0 + width < 2 ^ 32) × RoomFor slim tape.old (position.0 + 1) }
-    ensures { Lays slim (system_id width source.registry source.base.0) tape position result }
+// Lays the neighbor's system id, which stands first on a LAN (RFC 9352, section 8.2), where it has octets. No `Option`: its width, 0 or
+// 6, is added to the places behind it.
+pub fn system_id<L: Layout>(value: Stretch, width: usize, pen: &mut Pen<'_, L>)
+    requires { (value.base.0 + width < 2 ^ 32) × HasRoom L.SLIM pen.old 1 }
+    ensures { Writes L.SLIM (of (system_id width) value.entry) pen.old pen.new }
 {
-    if width == 0 {
-        return position;
+    if 0 < width {
+        octets(value, Label::NeighborSystemId, Shape::Bytes, 0, width, pen);
     }
-    part(
-        source,
-        Label::NEIGHBOR_SYSTEM_ID,
-        Shape::BYTES,
-        0,
-        width,
-        0,
-        tape,
-        slim,
-        position,
-    )
 }
 
 // A value by its type; the types 43 and 44 hold an area of their own.
-pub fn neighbor(
-    value: &[u8],
-    kind: u8,
-    base: Octet,
-    tape: &mut [u64],
-    slim: bool,
-    at: Position,
-) -> Decoded
-    requires { (kind ≡ 43 → ⊥) × (kind ≡ 44 → ⊥) × Asks slim (reading 0 kind) value base tape at }
-    ensures { Decodes slim (reading 0 kind) value base tape at result }
+pub fn neighbor<L: Layout>(value: Stretch, kind: u8, pen: &mut Pen<'_, L>) -> Option<usize>
+    requires { (kind ≡ 43 → ⊥) × (kind ≡ 44 → ⊥) × Asks L.SLIM (of (by_row 0 kind) value) pen.old }
+    ensures { Reads L.SLIM (of (by_row 0 kind) value.entry) pen.old pen.new result }
 {
-    let source = Source {
-        registry: Neighbor::NUMBER as u8,
-        base,
-    };
     match kind {
-        3 => one_number32(value, source, Label::ADMIN_GROUP, tape, slim, at),
-        4 => link_identifiers(value, source, tape, slim, at),
-        6 => ipv4(value, source, Label::IPV4_INTERFACE_ADDRESS, tape, slim, at),
-        8 => ipv4(value, source, Label::IPV4_NEIGHBOR_ADDRESS, tape, slim, at),
-        9 => one_number32(value, source, Label::MAX_BANDWIDTH, tape, slim, at),
-        10 => one_number32(
-            value,
-            source,
-            Label::MAX_RESERVABLE_BANDWIDTH,
-            tape,
-            slim,
-            at,
-        ),
-        11 => unreserved_bandwidth(value, source, tape, slim, at),
-        12 => ipv6(value, source, Label::IPV6_INTERFACE_ADDRESS, tape, slim, at),
-        13 => ipv6(value, source, Label::IPV6_NEIGHBOR_ADDRESS, tape, slim, at),
-        18 => one_number24(value, source, Label::TE_DEFAULT_METRIC, 0, tape, slim, at),
-        31 => octet_and_sid(value, source, Label::WEIGHT, tape, slim, at),
-        32 => lan_adj_sid(value, source, tape, slim, at),
-        33 => flag_and_number(value, source, Label::DELAY, tape, slim, at),
-        34 => min_max_delay(value, source, tape, slim, at),
-        35 => one_number24(value, source, Label::DELAY_VARIATION, 1, tape, slim, at),
-        36 => flag_and_number(value, source, Label::LINK_LOSS, tape, slim, at),
-        37..=39 => one_number32(value, source, Label::BANDWIDTH, tape, slim, at),
-        _ => Decoded {
-            taken: Taken::Nothing,
-            next: at,
-        },
+        3 => one_number::<4, L>(value, Label::AdminGroup, 0, pen),
+        4 => link_identifiers(value, pen),
+        6 => address(value, Label::Ipv4InterfaceAddress, Shape::Ipv4, 4, pen),
+        8 => address(value, Label::Ipv4NeighborAddress, Shape::Ipv4, 4, pen),
+        9 => one_number::<4, L>(value, Label::MaxBandwidth, 0, pen),
+        10 => one_number::<4, L>(value, Label::MaxReservableBandwidth, 0, pen),
+        11 => unreserved_bandwidth(value, pen),
+        12 => address(value, Label::Ipv6InterfaceAddress, Shape::Ipv6, 16, pen),
+        13 => address(value, Label::Ipv6NeighborAddress, Shape::Ipv6, 16, pen),
+        18 => one_number::<3, L>(value, Label::TeDefaultMetric, 0, pen),
+        31 => octet_and_sid(value, Label::Weight, pen),
+        32 => lan_adj_sid(value, pen),
+        33 => flag_and_number(value, Label::Delay, pen),
+        34 => min_max_delay(value, pen),
+        35 => one_number::<3, L>(value, Label::DelayVariation, 1, pen),
+        36 => flag_and_number(value, Label::LinkLoss, pen),
+        37..=39 => one_number::<4, L>(value, Label::Bandwidth, 0, pen),
+        _ => None,
     }
 }

@@ -1,4 +1,4 @@
--- Laws for a loop that replaces a list's elements by another list's, from the front: `paste to 0 from i` after i turns.
+-- Laws of octets in front of others, and for a loop that puts them there: `paste to 0 from i` after i turns.
 use Rattle.std.specs.Prelude.{◌≡◌, ℕ, suc, ◌+◌, ◌<◌, List, [], length, get_or, set, drop, replicate}
 use Rattle.std.proofs.Common.{sym, ◌∙◌, subst, append-nil, zero-add, add-one, arith, get_or-append-add, get_or-drop}
 use Rattle.std.proofs.lemmas.List.{length-replicate, get_or-replicate}
@@ -26,9 +26,7 @@ pub in_front_after : (to from : List ℕ) (i : ℕ) → get_or (in_front from to
 unfolding in_front
 in_front_after to from i = get_or-append-add from (drop (length from) to) i 0 ∙ get_or-drop (length from) to i 0
 
--- zeros
-
--- a turn of the loop that makes a list's elements 0
+-- a turn of a loop that makes a list's elements 0
 pub zero_more : (xs now : List ℕ) (i : ℕ) → i < length xs → now ≡ paste xs 0 (replicate (length xs) 0) i → set now i 0 ≡ paste xs 0 (replicate (length xs) 0) (i + 1)
 zero_more xs now i inside so_far =
     let zeros : List ℕ = replicate (length xs) 0 in

@@ -7,9 +7,8 @@ pub fn copy_to_front(from: &[u8], to: &mut [u8])
     requires { length from.now ≤ length to.old }
     ensures { to.new ≡ in_front from.now to.old }
 {
-    let mut i = 0;
-    while i < from.len() {
+    // No `copy_from_slice`: it wants C's `memmove`, and the C header says that the library takes `memcpy` and `memset` alone.
+    for i in 0..from.len() {
         to[i] = from[i];
-        i += 1;
     }
 }

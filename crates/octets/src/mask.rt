@@ -8,6 +8,7 @@ fn cut(x: u8, bits: usize) -> u8
     ensures { result ≡ kept bits x }
 {
     let others = 8 - bits;
+    // In more than 8 bits: where no bit is kept, all 8 are shifted out.
     (x as usize >> others << others) as u8
 }
 
@@ -15,11 +16,7 @@ fn cut(x: u8, bits: usize) -> u8
 fn zero(octets: &mut [u8])
     ensures { octets.new ≡ replicate (length octets.old) 0 }
 {
-    let mut i = 0;
-    while i < octets.len() {
-        octets[i] = 0;
-        i += 1;
-    }
+    octets.fill(0);
 }
 
 // Clears the bits of `prefix` after the first `bits` bits: whole octets are kept, one octet is cut, the rest become 0.

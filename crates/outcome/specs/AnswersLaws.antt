@@ -5,10 +5,9 @@ use Rattle.std.proofs.Common.{◌∙◌, subst, inl, inr, ⊎_elim, true≢false
 use Rattle.std.proofs.Math.Bool.{true, false, or-true, and-eq-true_iff}
 use mathlib.Core.List.{List, [], ◌∷◌, ◌++◌}
 use Rattle.std.proofs.lemmas.Bool.{eqb-false, not-true}
-use Rattle.outcome.specs.Call.{After, Gives, refusal, no_room}
+use Rattle.outcome.specs.Call.{Outcome, After, Gives, refusal, no_room}
 use Rattle.outcome.specs.CallLaws.{gives_after}
 use Rattle.outcome.specs.Answers.{Line, Answer, None, is_one_of, are_distinct, numbers_in, Distinct, Answered}
-use Rattle.outcome.specs.declared.Outcome.{Outcome}
 
 -- when, and only then
 

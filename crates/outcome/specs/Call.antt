@@ -1,6 +1,12 @@
 -- What a call gives back and leaves, and the form of the contract of a call that gives an outcome.
 use Rattle.std.specs.Prelude.{◌≡◌, List, [], ◌∷◌, ℕ}
-use Rattle.outcome.specs.declared.Outcome.{Outcome}
+
+-- the numbers that a call gives back: the answer, the octets covered, the records (for a name: octets) written and the records needed
+pub record Outcome : Type 0 where
+  pub answer : ℕ
+  pub covered : ℕ
+  pub written : ℕ
+  pub needed : ℕ
 
 -- an answer alone: 0 covered, 0 written, 0 needed
 abbrev pub bare : ℕ → Outcome

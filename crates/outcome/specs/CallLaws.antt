@@ -1,8 +1,7 @@
 -- Laws of the calls' contracts.
 use Rattle.std.specs.Prelude.{◌≡◌, refl, List, ℕ}
 use Rattle.std.proofs.Common.{sym, ◌∙◌, ap}
-use Rattle.outcome.specs.Call.{After, Gives, GivesNumbers, numbers_of}
-use Rattle.outcome.specs.declared.Outcome.{Outcome}
+use Rattle.outcome.specs.Call.{Outcome, After, Gives, GivesNumbers, numbers_of}
 
 -- two results that meet a call's contract are equal
 pub gives_unique : {meant : After} {one other : Outcome} {exit exit' : List ℕ} → Gives meant one exit → Gives meant other exit' → (one ≡ other) × (exit ≡ exit')

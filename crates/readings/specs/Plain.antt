@@ -1,8 +1,9 @@
 -- Fields that are one record each, and the room that a row of such fields asks for.
-use Rattle.std.specs.Prelude.{◌≡◌, refl, List, [], ◌∷◌, Bool, ℕ, ◌+◌, ◌^◌, ◌≤◌, ◌<◌, length}
+use Rattle.std.specs.Prelude.{◌≡◌, refl, List, [], ◌∷◌, Bool, ℕ, ◌+◌, ◌≤◌, length}
 use Rattle.std.proofs.Common.{ap, arith}
 use Rattle.tape.specs.Forest.{size, ◌⧺◌}
-use Rattle.tape.specs.Laid.{Room, RoomFor}
+use Rattle.store.specs.Pen.{HasRoom}
+use Rattle.store.specs.declared.pen.Pen.{Pen}
 use Rattle.meaning.specs.Label
 use Rattle.meaning.specs.Field.{Field, part, flag, sid, array, tail, push}
 use Rattle.meaning.specs.Table.{usual, table}
@@ -10,7 +11,7 @@ use Rattle.meaning.specs.TableLaws.{least_in, fields_in, OneRow}
 use Rattle.meaning.specs.Value.{Walk, field_trees, fields_trees}
 use Rattle.meaning.specs.Area.{walked}
 use Rattle.fields.specs.ShowsLaws.{sid_shown}
-use Rattle.readings.specs.Reading.{Reading, reading_of}
+use Rattle.readings.specs.Reading.{Reading, reading_of, by_row, Asks}
 use Rattle.readings.specs.ReadingLaws.{row_fields}
 
 -- parts, bits and SIDs, whose octets are there
@@ -41,8 +42,8 @@ size_reading r v base [] p = refl
 size_reading r v base (f ∷ fs) p = size_plain (walked usual) r v base (f ∷ fs) p
 
 -- the row of type k in a registry, shown by registry r: room for as many records as it has fields
-pub plain_room : (registry k r : ℕ) (v : List ℕ) (base : ℕ) → OneRow registry k v → {slim : Bool} {n at : ℕ} {t : List ℕ} → least_in table registry k ≤ length v → Plain v (fields_in table registry k)
-    → Room slim (reading_of r v base (usual registry k v)).found n base t at → (base + n < 2 ^ 32) × RoomFor slim t (at + length (fields_in table registry k))
-plain_room registry k r v base row long p asked =
+pub plain_room : {L : Type 0} {slim : Bool} (registry k r : ℕ) (v : List ℕ) (base : ℕ) (p : Pen L) → OneRow registry k v → least_in table registry k ≤ length v → Plain v (fields_in table registry k)
+    → Asks slim (by_row registry k r v base) p → HasRoom slim p (length (fields_in table registry k))
+plain_room registry k r v base p row long plain asked =
     let shown = ap (λ (x : Reading). size x.found) (row_fields registry k r v base row long) in
-    (asked.octet, record { fits = omega (arith, asked.position.fits, shown, size_reading r v base (fields_in table registry k) p); small = asked.position.small })
+    record { fits = omega (arith, asked.fits, shown, size_reading r v base (fields_in table registry k) plain); small = asked.small }

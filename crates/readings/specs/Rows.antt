@@ -1,36 +1,20 @@
 -- Readings that several types share, by the numbers of labels and shapes, and what stands before an SRv6 SID.
-use Rattle.std.specs.Prelude.{cond, List, ℕ, ◌+◌, ◌/◌, ◌%◌, eqb, get_or}
-use Rattle.octets.specs.BigEndian.{big_endian}
-use Rattle.tape.specs.Forest.{Forest, none, leaf, ◌⧺◌}
+use Rattle.std.specs.Prelude.{cond, List, ℕ, ◌+◌, eqb}
+use Rattle.tape.specs.Forest.{Forest, none, ◌⧺◌}
 use Rattle.meaning.specs.Label
-use Rattle.meaning.specs.Tree.{content}
 use Rattle.meaning.specs.Cut.{pieces, total}
 use Rattle.meaning.specs.Frame.{whole}
 use Rattle.meaning.specs.Sid.{sid_trees, sid_end}
-use Rattle.fields.specs.Shows.{numbers_in}
+use Rattle.fields.specs.Shows.{number_at, octets_at, flag_at, numbers_in}
 use Rattle.readings.specs.Reading.{Reading, took, given}
 
--- a number in the width octets from a place on: label, shape, place, width
-abbrev pub number_at : ℕ → ℕ → ℕ → ℕ → ℕ → List ℕ → ℕ → Forest
-number_at label shape at width registry v base = leaf (content label shape registry (base + at) (base + at + width) (big_endian v at width)) none
-
--- octets without a number
-abbrev pub octets_at : ℕ → ℕ → ℕ → ℕ → ℕ → ℕ → Forest
-octets_at label shape at width registry base = leaf (content label shape registry (base + at) (base + at + width) 0) none
-
--- a bit of octet 0
-abbrev flag_at : ℕ → ℕ → ℕ → List ℕ → ℕ → Forest
-flag_at label mask registry v base = leaf (content label 0 registry base (base + 1) (get_or v 0 0 / mask % 2)) none
-
+-- a number: label, shape, place, width
 abbrev pub one_number : ℕ → ℕ → ℕ → ℕ → ℕ → List ℕ → ℕ → Reading
 one_number label shape at width registry v base = given (at + width) v (took (at + width) (number_at label shape at width registry v base))
 
+-- an address: label, shape, width
 abbrev pub one_address : ℕ → ℕ → ℕ → ℕ → List ℕ → ℕ → Reading
-one_address label shape width registry v base = given width v (took width (octets_at label shape 0 width registry base))
-
--- a number for one type, 0 for others
-abbrev pub for_type : ℕ → ℕ → ℕ → ℕ
-for_type kind one number = cond (eqb kind one) number 0
+one_address label shape width registry v base = given width v (took width (octets_at label shape 0 width registry v base))
 
 -- flags, an octet, a SID
 abbrev pub octet_and_sid : ℕ → ℕ → List ℕ → ℕ → Reading
@@ -46,14 +30,14 @@ abbrev pub number_array : ℕ → ℕ → ℕ → ℕ → ℕ → ℕ → List �
 number_array least array label shape width registry v base =
     given least v (took (total (pieces (whole width) v)) (numbers_in array label shape width registry v base))
 
--- flags, algorithm, weight, endpoint behavior, from a place on
-abbrev pub end_x_head : ℕ → List ℕ → ℕ → ℕ → Forest
-end_x_head registry v base at =
+-- flags, algorithm, weight, endpoint behavior: place
+abbrev pub end_x_head : ℕ → ℕ → List ℕ → ℕ → Forest
+end_x_head at registry v base =
     number_at 16 0 at 1 registry v base ⧺ number_at 18 0 (at + 1) 1 registry v base ⧺ number_at 17 0 (at + 2) 1 registry v base ⧺ number_at 28 1 (at + 3) 2 registry v base
 
--- the neighbor's system id, where it has octets
-abbrev pub system_id : ℕ → ℕ → ℕ → Forest
-system_id width registry base = cond (eqb width 0) none (octets_at 20 6 0 width registry base)
+-- the neighbor's system id, where it has octets: width
+abbrev pub system_id : ℕ → ℕ → List ℕ → ℕ → Forest
+system_id width registry v base = cond (eqb width 0) none (octets_at 20 6 0 width registry v base)
 
 -- flags, endpoint behavior
 abbrev pub end_head : ℕ → List ℕ → ℕ → Forest

@@ -62,7 +62,3 @@ pub ranges_types : (kind : ℕ) (v : List ℕ) → (kind ≡ 2) ⊎ (kind ≡ 22
 unfolding usual fields_of table
 ranges_types kind v (inl e) = ap (λ (n : ℕ). usual 2 n v) e
 ranges_types kind v (inr e) = ap (λ (n : ℕ). usual 2 n v) e
-
--- what is left of them after the types 31 to 36
-pub past_36 : (n : ℕ) → 31 ≤ n → (n ≡ 31 → ⊥) → (n ≡ 32 → ⊥) → (n ≡ 33 → ⊥) → (n ≡ 34 → ⊥) → (n ≡ 35 → ⊥) → (n ≡ 36 → ⊥) → 37 ≤ n
-past_36 n from not31 not32 not33 not34 not35 not36 = omega arith

@@ -2,5 +2,4 @@ pub mod Registry
 pub mod RegistryLaws
 pub mod Names
 pub mod NameCall
-pub mod Packed
-pub mod PackedLaws
+pub mod NamesLaws

@@ -1,5 +1,5 @@
 -- The names of the registries, as docs/src has them: one line a type.
-use Rattle.std.specs.Prelude.{ℕ, cond, List, [], ◌∷◌, eqb}
+use Rattle.std.specs.Prelude.{ℕ, cond, List, [], ◌∷◌, eqb, map}
 use Prim.Native.String.{String, [] as none, ◌∷◌ as more}
 use Prim.Native.Char.{code}
 use Rattle.registry.specs.declared.Registry.{Registry}
@@ -141,3 +141,7 @@ as_octets (more c s) = code c ∷ as_octets s
 -- the octets of the name of a type in a registry
 unfoldable pub name_of : Registry → ℕ → List ℕ
 name_of registry t = as_octets (find (names_of registry) t)
+
+-- names in octets, as the code has them
+abbrev pub in_octets : List Name → List (ℕ × List ℕ)
+in_octets names = map (λ n. (n.0, as_octets n.1)) names

@@ -1,13 +1,15 @@
 -- The registries and their numbers: each number 0 to 5 is one registry's, and no other number is.
-use Rattle.std.specs.Prelude.{◌≡◌, refl, ℕ, zero, suc, ◌≤◌, ◌<◌}
+use Rattle.std.specs.Prelude.{◌≡◌, refl, ℕ, zero, suc, ◌≤◌, ◌<◌, Option, Some, None, Ok, Err}
 use Rattle.std.proofs.Common.{arith, ne_eqb}
-use Rattle.registry.specs.Registry.{number_of, registry_of}
+use Rattle.std.specs.Option.{ok_or}
+use Rattle.outcome.specs.declared.Refusal.{Refusal}
+use Rattle.outcome.specs.declared.Refusal.TheVariants.{NoSuchRegistry}
+use Rattle.registry.specs.Registry.{number_of, registry_of, known}
 use Rattle.registry.specs.declared.Registry.{Registry}
 use Rattle.registry.specs.declared.Registry.TheVariants.{Neighbor, Prefix, RouterCapability, Binding, Srv6Sid, Unregistered}
-use Rattle.registry.specs.declared.Found.TheVariants.{Known, Unknown}
 
 -- a registry is the one of its number
-pub registry_of_number : (registry : Registry) → registry_of (number_of registry) ≡ Known registry
+pub registry_of_number : (registry : Registry) → registry_of (number_of registry) ≡ Some registry
 unfolding registry_of
 registry_of_number Neighbor = refl
 registry_of_number Prefix = refl
@@ -17,7 +19,7 @@ registry_of_number Srv6Sid = refl
 registry_of_number Unregistered = refl
 
 -- from 6 on there is none
-pub registry_of_past : (n : ℕ) → 6 ≤ n → registry_of n ≡ Unknown
+pub registry_of_past : (n : ℕ) → 6 ≤ n → registry_of n ≡ None
 unfolding registry_of
 registry_of_past n past =
     rw (
@@ -38,3 +40,19 @@ numbered (suc (suc (suc zero))) below = (Binding, refl)
 numbered (suc (suc (suc (suc zero)))) below = (Srv6Sid, refl)
 numbered (suc (suc (suc (suc (suc zero))))) below = (Unregistered, refl)
 numbered (suc (suc (suc (suc (suc (suc n)))))) below = absurd (omega arith)
+
+-- known: a registry's number ..
+some_ok : (o : Option Registry) {registry : Registry} → ok_or o NoSuchRegistry ≡ Ok registry → o ≡ Some registry
+some_ok None is = cc
+some_ok (Some k) is = cc
+
+pub known_some : (n : ℕ) {registry : Registry} → known n ≡ Ok registry → registry_of n ≡ Some registry
+known_some n is = some_ok (registry_of n) is
+
+-- .. or none's
+none_ok : (o : Option Registry) {e : Refusal} → ok_or o NoSuchRegistry ≡ Err e → (o ≡ None) × (e ≡ NoSuchRegistry)
+none_ok None is = (refl, cc)
+none_ok (Some k) is = cc
+
+pub known_none : (n : ℕ) {e : Refusal} → known n ≡ Err e → (registry_of n ≡ None) × (e ≡ NoSuchRegistry)
+known_none n is = none_ok (registry_of n) is

@@ -1,230 +1,228 @@
-// Each registry as a type, with its number, its level and its names as constants of its own, and its name lookup.
+// Each registry as a type, with its number, its level and its names as constants of its own.
 ghost use Rattle.outcome.specs.Call.{Gives};
+ghost use Rattle.outcome.specs.Told.{told};
 ghost use Rattle.registry.specs.Names.{name_of};
 ghost use Rattle.registry.specs.NameCall.{named};
+ghost use Rattle.registry.specs.declared.Registry.{Registry};
+ghost use Rattle.registry.specs.declared.Registry.TheVariants.{
+  Neighbor as neighbor,
+  Prefix as prefix,
+  RouterCapability as router_capability,
+  Binding as binding,
+  Srv6Sid as srv6_sid,
+  Unregistered as unregistered,
+};
 
 use crate::Registry;
-use crate::lookup::write_name;
 use outcome::Outcome;
+
+// What a registry has of its own, as a type.
+pub trait RegistryType {
+    // It as a value.
+    const REGISTRY: Registry;
+
+    ghost REGISTRY: { Registry };
+
+    // Its number.
+    const NUMBER: u64;
+
+    // Its level: whether it is nested.
+    const NESTED: bool;
+
+    // Its names, each behind its type.
+    const NAMES: &'static [(u64, &'static str)];
+
+    // Writes the name of type `t` to the front of `out`.
+    final fn name(t: u64, out: &mut [u8]) -> Outcome
+        ensures { Gives (named (name_of REGISTRY t) out.old) (told result) out.new }
+    {
+        Self::REGISTRY.name(t, out)
+    }
+}
 
 // IANA, IS-IS Sub-TLVs for TLVs Advertising Neighbor Information.
 #[derive(Clone, Copy)]
 pub struct Neighbor;
 
-impl Neighbor {
-    // Its number.
-    pub const NUMBER: u64 = 0;
+impl RegistryType for Neighbor {
+    const REGISTRY: Registry = Registry::Neighbor;
 
-    // Its level: whether it is nested.
-    pub const NESTED: bool = false;
+    ghost REGISTRY = { neighbor };
 
-    // Its names: for each the type, the length, the text.
-    pub const NAMES: [u8; 1092] = *b"\
-        \x03\x1cAdministrative group (color)\
-        \x04\x1dLink Local/Remote Identifiers\
-        \x06\x16IPv4 interface address\
-        \x08\x15IPv4 neighbor address\
-        \x09\x16Maximum link bandwidth\
-        \x0a\x21Maximum reservable link bandwidth\
-        \x0b\x14Unreserved bandwidth\
-        \x0c\x16IPv6 Interface Address\
-        \x0d\x15IPv6 Neighbor Address\
-        \x0e\x1dExtended Administrative Group\
-        \x0f\x08Link MSD\
-        \x10\x24Application-Specific Link Attributes\
-        \x11\x0eGeneric Metric\
-        \x12\x11TE Default metric\
-        \x13\x0fLink-attributes\
-        \x14\x14Link Protection Type\
-        \x15\x29Interface Switching Capability Descriptor\
-        \x16\x15Bandwidth Constraints\
-        \x17\x1aUnconstrained TE LSP Count\
-        \x18\x10Remote AS Number\
-        \x19\x1bIPv4 Remote ASBR Identifier\
-        \x1a\x1bIPv6 Remote ASBR Identifier\
-        \x1b\x31Interface Adjustment Capability Descriptor (IACD)\
-        \x1c\x03MTU\
-        \x1d\x0aSPB-Metric\
-        \x1e\x0aSPB-A-OALG\
-        \x1f\x1cAdjacency Segment Identifier\
-        \x20\x20LAN Adjacency Segment Identifier\
-        \x21\x19Unidirectional Link Delay\
-        \x22\x21Min/Max Unidirectional Link Delay\
-        \x23\x1eUnidirectional Delay Variation\
-        \x24\x18Unidirectional Link Loss\
-        \x25\x21Unidirectional Residual Bandwidth\
-        \x26\x22Unidirectional Available Bandwidth\
-        \x27\x21Unidirectional Utilized Bandwidth\
-        \x28\x0eRTM Capability\
-        \x29\x18L2 Bundle Member Adj-SID\
-        \x2a\x1cL2 Bundle Member LAN Adj-SID\
-        \x2b\x0eSRv6 End.X SID\
-        \x2c\x12SRv6 LAN End.X SID\
-        \x2d\x1aIPv6 Local ASBR Identifier\
-        \xa1\x19Flood Reflector Adjacency\
-        ";
+    const NUMBER: u64 = 0;
 
-    // Writes the name of type `t` to the front of `out`.
-    pub fn name(t: u64, out: &mut [u8]) -> Outcome
-        ensures { Gives (named (name_of Registry.Neighbor t) out.old) result out.new }
-    {
-        write_name(Registry::Neighbor, &Self::NAMES, t, out)
-    }
+    const NESTED: bool = false;
+
+    const NAMES: &'static [(u64, &'static str)] = &[
+        (3, "Administrative group (color)"),
+        (4, "Link Local/Remote Identifiers"),
+        (6, "IPv4 interface address"),
+        (8, "IPv4 neighbor address"),
+        (9, "Maximum link bandwidth"),
+        (10, "Maximum reservable link bandwidth"),
+        (11, "Unreserved bandwidth"),
+        (12, "IPv6 Interface Address"),
+        (13, "IPv6 Neighbor Address"),
+        (14, "Extended Administrative Group"),
+        (15, "Link MSD"),
+        (16, "Application-Specific Link Attributes"),
+        (17, "Generic Metric"),
+        (18, "TE Default metric"),
+        (19, "Link-attributes"),
+        (20, "Link Protection Type"),
+        (21, "Interface Switching Capability Descriptor"),
+        (22, "Bandwidth Constraints"),
+        (23, "Unconstrained TE LSP Count"),
+        (24, "Remote AS Number"),
+        (25, "IPv4 Remote ASBR Identifier"),
+        (26, "IPv6 Remote ASBR Identifier"),
+        (27, "Interface Adjustment Capability Descriptor (IACD)"),
+        (28, "MTU"),
+        (29, "SPB-Metric"),
+        (30, "SPB-A-OALG"),
+        (31, "Adjacency Segment Identifier"),
+        (32, "LAN Adjacency Segment Identifier"),
+        (33, "Unidirectional Link Delay"),
+        (34, "Min/Max Unidirectional Link Delay"),
+        (35, "Unidirectional Delay Variation"),
+        (36, "Unidirectional Link Loss"),
+        (37, "Unidirectional Residual Bandwidth"),
+        (38, "Unidirectional Available Bandwidth"),
+        (39, "Unidirectional Utilized Bandwidth"),
+        (40, "RTM Capability"),
+        (41, "L2 Bundle Member Adj-SID"),
+        (42, "L2 Bundle Member LAN Adj-SID"),
+        (43, "SRv6 End.X SID"),
+        (44, "SRv6 LAN End.X SID"),
+        (45, "IPv6 Local ASBR Identifier"),
+        (161, "Flood Reflector Adjacency"),
+    ];
 }
 
 // IANA, IS-IS Sub-TLVs for TLVs Advertising Prefix Reachability.
 #[derive(Clone, Copy)]
 pub struct Prefix;
 
-impl Prefix {
-    // Its number.
-    pub const NUMBER: u64 = 1;
+impl RegistryType for Prefix {
+    const REGISTRY: Registry = Registry::Prefix;
 
-    // Its level: whether it is nested.
-    pub const NESTED: bool = false;
+    ghost REGISTRY = { prefix };
 
-    // Its names: for each the type, the length, the text.
-    pub const NAMES: [u8; 217] = *b"\
-        \x01\x1932-bit Administrative Tag\
-        \x02\x1964-bit Administrative Tag\
-        \x03\x19Prefix Segment Identifier\
-        \x04\x16Prefix Attribute Flags\
-        \x05\x0cSRv6 End SID\
-        \x06\x27Flexible Algorithm Prefix Metric (FAPM)\
-        \x0b\x15IPv4 Source Router ID\
-        \x0c\x15IPv6 Source Router ID\
-        \x20\x09BIER Info\
-        ";
+    const NUMBER: u64 = 1;
 
-    // Writes the name of type `t` to the front of `out`.
-    pub fn name(t: u64, out: &mut [u8]) -> Outcome
-        ensures { Gives (named (name_of Registry.Prefix t) out.old) result out.new }
-    {
-        write_name(Registry::Prefix, &Self::NAMES, t, out)
-    }
+    const NESTED: bool = false;
+
+    const NAMES: &'static [(u64, &'static str)] = &[
+        (1, "32-bit Administrative Tag"),
+        (2, "64-bit Administrative Tag"),
+        (3, "Prefix Segment Identifier"),
+        (4, "Prefix Attribute Flags"),
+        (5, "SRv6 End SID"),
+        (6, "Flexible Algorithm Prefix Metric (FAPM)"),
+        (11, "IPv4 Source Router ID"),
+        (12, "IPv6 Source Router ID"),
+        (32, "BIER Info"),
+    ];
 }
 
 // IANA, IS-IS Sub-TLVs for IS-IS Router CAPABILITY TLV.
 #[derive(Clone, Copy)]
 pub struct RouterCapability;
 
-impl RouterCapability {
-    // Its number.
-    pub const NUMBER: u64 = 2;
+impl RegistryType for RouterCapability {
+    const REGISTRY: Registry = Registry::RouterCapability;
 
-    // Its level: whether it is nested.
-    pub const NESTED: bool = false;
+    ghost REGISTRY = { router_capability };
 
-    // Its names: for each the type, the length, the text.
-    pub const NAMES: [u8; 638] = *b"\
-        \x01\x1dTE Node Capability Descriptor\
-        \x02\x1aSegment Routing Capability\
-        \x03\x18TE-MESH-GROUP TLV (IPv4)\
-        \x04\x18TE-MESH-GROUP TLV (IPv6)\
-        \x05\x04PCED\
-        \x06\x08NICKNAME\
-        \x07\x05TREES\
-        \x08\x0bTREE-RT-IDs\
-        \x09\x0cTREE-USE-IDs\
-        \x0a\x08INT-VLAN\
-        \x0b\x11IPv4 TE Router ID\
-        \x0c\x11IPv6 TE Router ID\
-        \x0d\x09TRILL-VER\
-        \x0e\x0aVLAN-GROUP\
-        \x0f\x09INT-LABEL\
-        \x10\x0aRBCHANNELS\
-        \x11\x08AFFINITY\
-        \x12\x0bLABEL-GROUP\
-        \x13\x19Segment Routing Algorithm\
-        \x14\x14S-BFD Discriminators\
-        \x15\x0eNode-Admin-Tag\
-        \x16\x22Segment Routing Local Block (SRLB)\
-        \x17\x08Node MSD\
-        \x18\x3bSegment Routing Mapping Server Preference (SRMS Preference)\
-        \x19\x11SRv6 Capabilities\
-        \x1a\x23Flexible Algorithm Definition (FAD)\
-        \x1b\x11IS-IS Area Leader\
-        \x1c\x16IS-IS Dynamic Flooding\
-        \x1d\x0cIP Algorithm\
-        \x1e\x2dMP-TLV Support for TLVs with Implicit Support\
-        \xa1\x1aFlood Reflection Discovery\
-        ";
+    const NUMBER: u64 = 2;
 
-    // Writes the name of type `t` to the front of `out`.
-    pub fn name(t: u64, out: &mut [u8]) -> Outcome
-        ensures { Gives (named (name_of Registry.RouterCapability t) out.old) result out.new }
-    {
-        write_name(Registry::RouterCapability, &Self::NAMES, t, out)
-    }
+    const NESTED: bool = false;
+
+    const NAMES: &'static [(u64, &'static str)] = &[
+        (1, "TE Node Capability Descriptor"),
+        (2, "Segment Routing Capability"),
+        (3, "TE-MESH-GROUP TLV (IPv4)"),
+        (4, "TE-MESH-GROUP TLV (IPv6)"),
+        (5, "PCED"),
+        (6, "NICKNAME"),
+        (7, "TREES"),
+        (8, "TREE-RT-IDs"),
+        (9, "TREE-USE-IDs"),
+        (10, "INT-VLAN"),
+        (11, "IPv4 TE Router ID"),
+        (12, "IPv6 TE Router ID"),
+        (13, "TRILL-VER"),
+        (14, "VLAN-GROUP"),
+        (15, "INT-LABEL"),
+        (16, "RBCHANNELS"),
+        (17, "AFFINITY"),
+        (18, "LABEL-GROUP"),
+        (19, "Segment Routing Algorithm"),
+        (20, "S-BFD Discriminators"),
+        (21, "Node-Admin-Tag"),
+        (22, "Segment Routing Local Block (SRLB)"),
+        (23, "Node MSD"),
+        (
+            24,
+            "Segment Routing Mapping Server Preference (SRMS Preference)",
+        ),
+        (25, "SRv6 Capabilities"),
+        (26, "Flexible Algorithm Definition (FAD)"),
+        (27, "IS-IS Area Leader"),
+        (28, "IS-IS Dynamic Flooding"),
+        (29, "IP Algorithm"),
+        (30, "MP-TLV Support for TLVs with Implicit Support"),
+        (161, "Flood Reflection Discovery"),
+    ];
 }
 
 // IANA, IS-IS Sub-TLVs for Segment Identifier/Label Binding TLVs.
 #[derive(Clone, Copy)]
 pub struct Binding;
 
-impl Binding {
-    // Its number.
-    pub const NUMBER: u64 = 3;
+impl RegistryType for Binding {
+    const REGISTRY: Registry = Registry::Binding;
 
-    // Its level: whether it is nested.
-    pub const NESTED: bool = false;
+    ghost REGISTRY = { binding };
 
-    // Its names: for each the type, the length, the text.
-    pub const NAMES: [u8; 38] = *b"\
-        \x01\x09SID/Label\
-        \x03\x19Prefix Segment Identifier\
-        ";
+    const NUMBER: u64 = 3;
 
-    // Writes the name of type `t` to the front of `out`.
-    pub fn name(t: u64, out: &mut [u8]) -> Outcome
-        ensures { Gives (named (name_of Registry.Binding t) out.old) result out.new }
-    {
-        write_name(Registry::Binding, &Self::NAMES, t, out)
-    }
+    const NESTED: bool = false;
+
+    const NAMES: &'static [(u64, &'static str)] = &[
+        (1, "SID/Label"),
+        (3, "Prefix Segment Identifier"),
+    ];
 }
 
 // IANA, IS-IS Sub-Sub-TLVs for SRv6 SID Sub-TLVs.
 #[derive(Clone, Copy)]
 pub struct Srv6Sid;
 
-impl Srv6Sid {
-    // Its number.
-    pub const NUMBER: u64 = 4;
+impl RegistryType for Srv6Sid {
+    const REGISTRY: Registry = Registry::Srv6Sid;
 
-    // Its level: whether it is nested.
-    pub const NESTED: bool = true;
+    ghost REGISTRY = { srv6_sid };
 
-    // Its names: for each the type, the length, the text.
-    pub const NAMES: [u8; 20] = *b"\
-        \x01\x12SRv6 SID Structure\
-        ";
+    const NUMBER: u64 = 4;
 
-    // Writes the name of type `t` to the front of `out`.
-    pub fn name(t: u64, out: &mut [u8]) -> Outcome
-        ensures { Gives (named (name_of Registry.Srv6Sid t) out.old) result out.new }
-    {
-        write_name(Registry::Srv6Sid, &Self::NAMES, t, out)
-    }
+    const NESTED: bool = true;
+
+    const NAMES: &'static [(u64, &'static str)] = &[(1, "SRv6 SID Structure")];
 }
 
 // Sub-sub-TLVs without a registry, those of SRv6 Capabilities (RFC 9352, section 2).
 #[derive(Clone, Copy)]
 pub struct Unregistered;
 
-impl Unregistered {
-    // Its number.
-    pub const NUMBER: u64 = 5;
+impl RegistryType for Unregistered {
+    const REGISTRY: Registry = Registry::Unregistered;
 
-    // Its level: whether it is nested.
-    pub const NESTED: bool = true;
+    ghost REGISTRY = { unregistered };
 
-    // Its names: none.
-    pub const NAMES: [u8; 0] = *b"";
+    const NUMBER: u64 = 5;
 
-    // Writes the name of type `t` to the front of `out`.
-    pub fn name(t: u64, out: &mut [u8]) -> Outcome
-        ensures { Gives (named (name_of Registry.Unregistered t) out.old) result out.new }
-    {
-        write_name(Registry::Unregistered, &Self::NAMES, t, out)
-    }
+    const NESTED: bool = true;
+
+    const NAMES: &'static [(u64, &'static str)] = &[];
 }

@@ -4,59 +4,37 @@
 // and one past the last, less the base (2 each), number (8), first child and one past the last descendant (2 each).
 #![tactic(auto)]
 
-ghost use Rattle.std.specs.Prelude.{◌≡◌, ◌<◌, ◌≤◌, length, IfOk};
+ghost use Rattle.std.specs.Prelude.{◌≡◌, ◌<◌, ◌≤◌, length};
 
 use calls::{clear, read};
-use octets::read::{octet, read_be_u16, read_be_u32, read_be_u64};
+use input::read_full;
+use octets::read::read_be;
+use outcome::Done;
 use std::io;
 use std::io::Read;
-use tape::{Octet, Position};
+use tape::{Octet, Position, Record};
 
 // Word 0 of a record, as its first three octets say.
 fn tag(said: &[u8]) -> u64
     requires { length said.now ≡ 19 }
 {
-    octet(said, 0) as u64 + 256 * (octet(said, 1) as u64) + 65536 * (octet(said, 2) as u64)
+    said[0] as u64 + 256 * (said[1] as u64) + 65536 * (said[2] as u64)
 }
 
 // Whether the record at a position is the one that the 19 octets say.
 fn same_record(tape: &[u64], at: usize, base: u64, said: &[u8]) -> bool
     requires { (base < 4294967296) × (length said.now ≡ 19) }
 {
+    let words = [
+        tag(said),
+        base + read_be::<2>(said, 3),
+        base + read_be::<2>(said, 5),
+        read_be::<8>(said, 7),
+        read_be::<2>(said, 15),
+        read_be::<2>(said, 17),
+    ];
     let reading = read(tape, false, Position(at));
-    let record = reading.record;
-    let words = record.words();
-    if words[0] != tag(said) {
-        return false;
-    }
-    if words[1] != base + read_be_u16(said, 3) as u64 {
-        return false;
-    }
-    if words[2] != base + read_be_u16(said, 5) as u64 {
-        return false;
-    }
-    if words[3] != read_be_u64(said, 7) {
-        return false;
-    }
-    if words[4] != read_be_u16(said, 15) as u64 {
-        return false;
-    }
-    words[5] == read_be_u16(said, 17) as u64
-}
-
-// Reads until `octets` is full or the input ends, and gives how many octets it put at the front.
-fn read_full(input: &mut impl Read, octets: &mut [u8]) -> io::Result<usize>
-    ensures { IfOk result (λ n. n ≤ length octets.new) }
-{
-    let mut done = 0;
-    while done < octets.len() {
-        let n = input.read(&mut octets[done..])?;
-        if n == 0 {
-            break;
-        }
-        done += n;
-    }
-    Ok(done)
+    reading.unwrap_or(Record::zeros()).words() == words
 }
 
 // Reads the records that a case says, all of them, and gives whether each is the tape's.
@@ -70,9 +48,7 @@ fn same_records(input: &mut impl Read, tape: &[u64], base: u64, count: usize) ->
         if n < 19 {
             return Ok(false);
         }
-        if !same_record(tape, at, base, &said) {
-            same = false;
-        }
+        same &= same_record(tape, at, base, &said);
     }
     Ok(same)
 }
@@ -88,10 +64,10 @@ fn read_front(input: &mut impl Read, octets: &mut [u8], n: usize) -> io::Result<
 fn agrees(input: &mut impl Read, head: &[u8]) -> io::Result<bool>
     requires { length head.now ≡ 11 }
 {
-    let base = read_be_u32(head, 1) as u64;
-    let length = read_be_u16(head, 5) as usize;
-    let covered = read_be_u16(head, 7) as usize;
-    let count = read_be_u16(head, 9) as usize;
+    let base = read_be::<4>(head, 1);
+    let length = read_be::<2>(head, 5) as usize;
+    let covered = read_be::<2>(head, 7) as usize;
+    let count = read_be::<2>(head, 9) as usize;
     if 512 < length {
         return Ok(false);
     }
@@ -101,28 +77,21 @@ fn agrees(input: &mut impl Read, head: &[u8]) -> io::Result<bool>
     }
     // Room for the 1 + 7 * 512 / 3 records that 512 octets can need.
     let mut tape = [0u64; 7174];
-    clear(&mut tape, false);
+    clear(&mut tape, false).unwrap();
     let outcome = subtlv::push(
         &area[0..length],
         Octet(base as usize),
-        octet(head, 0) as u64,
+        head[0] as u64,
         &mut tape,
         false,
     );
     let same = same_records(input, &tape, base, count)?;
-    if outcome.answer != 0 {
-        return Ok(false);
-    }
-    if outcome.covered != covered {
-        return Ok(false);
-    }
-    if outcome.written != count {
-        return Ok(false);
-    }
-    if outcome.needed != count {
-        return Ok(false);
-    }
-    Ok(same)
+    let said = Done {
+        covered,
+        written: count,
+        needed: count,
+    };
+    Ok(same && outcome == Ok(said))
 }
 
 fn main(rt: HostRuntime) -> io::Result<()> {
@@ -130,11 +99,11 @@ fn main(rt: HostRuntime) -> io::Result<()> {
     let mut head = [0u8; 11];
     let mut cases: u64 = 0;
     let mut agreed: u64 = 0;
-    while cases < 1000000 {
+    for turn in 0..1000000u64 {
         if read_full(&mut input, &mut head)? < 11 {
             break;
         }
-        cases += 1;
+        cases = turn + 1;
         if agrees(&mut input, &head)? {
             agreed += 1;
         }

@@ -1,4 +1,5 @@
-// The header: records used, the word offset of the first record, words in a record, zero.
+// The header: records used, the word offset of the first record, words in a record, zero. The layout is a bool, as it is in each
+// call on a tape. That a tape has 4 words stands in clauses: it is the caller's slice.
 ghost use Rattle.std.specs.Prelude.{◌≡◌, ◌≤◌, length};
 ghost use Rattle.tape.specs.Layout.{width, room_of};
 ghost use Rattle.tape.specs.Tape.{used, headed, with_used};
@@ -26,23 +27,15 @@ pub fn room_of(slim: bool, n: usize) -> usize
 }
 
 // Whether the header is in order for the layout asked for; where it is not, all calls but clear are refused with 4.
+#[tactic(auto, unfolding(tape::specs::Tape::headed))]
 pub fn in_order(tape: &[u64], slim: bool) -> bool
     ensures { result ≡ headed slim tape.now }
 {
-    let n = tape.len();
-    if n < 4 {
-        return false;
-    }
-    if tape[1] != 4 {
-        return false;
-    }
-    if tape[2] != width(slim) as u64 {
-        return false;
-    }
-    if tape[3] != 0 {
-        return false;
-    }
-    tape[0] <= room_of(slim, n) as u64
+    4 <= tape.len()
+        && tape[1] == 4
+        && tape[2] == width(slim) as u64
+        && tape[3] == 0
+        && tape[0] <= room_of(slim, tape.len()) as u64
 }
 
 // How many records are used, which is also the position after them.

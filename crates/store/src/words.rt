@@ -1,4 +1,5 @@
-// The words of records, written and read, in the layout asked for.
+// The words of records, written and read, in the layout asked for: told by a bool, as the calls are told it (`calls::read`).
+// Each layout has a function of its own, since its words hold other things, not more or fewer of the same.
 ghost use Rattle.std.specs.Prelude.{◌≡◌, true, false, ℕ, ◌+◌, ◌*◌, ◌^◌, ◌<◌, ◌≤◌, length, get_or};
 ghost use Rattle.std.proofs.lemmas.List.Edits.{sets};
 ghost use Rattle.tape.specs.Layout.{width, word_of, pair, words_of, record_by};

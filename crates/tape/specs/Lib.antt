@@ -1,3 +1,4 @@
+pub mod Code
 pub mod Both
 pub mod Record
 pub mod RecordLaws

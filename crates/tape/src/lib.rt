@@ -15,7 +15,8 @@ pub struct Octet(pub usize);
 #[derive(Clone, Copy)]
 pub struct Position(pub usize);
 
-// A record without its positions: what it is, its first octet and one past its last, its number.
+// A record without its positions: what it is, its first octet and one past its last, its number. What it is stands as numbers,
+// not as `Label`, `Shape` and `Registry`: theorems (`fine_readable`) speak of contents with any numbers.
 #[derive(Clone, Copy)]
 pub struct Content {
     pub label: u8,
@@ -26,7 +27,8 @@ pub struct Content {
     pub number: u64,
 }
 
-// The six words of a record: `first` is its first child, `past` one past its last descendant.
+// The six words of a record: `first` is its first child, `past` one past its last descendant. Positions and 0 for none, since they
+// are words of the tape that the caller lends.
 #[derive(Clone, Copy)]
 pub struct Record {
     pub tag: u64,
@@ -63,7 +65,7 @@ impl Content {
 }
 
 impl Record {
-    // Six zeros.
+    // Six zeros: what a refused read gives. No `Default`: document 01 says them so.
     pub fn zeros() -> Record
         ensures { result ≡ zeros }
     {
@@ -77,7 +79,7 @@ impl Record {
         }
     }
 
-    // Its six words, in order.
+    // Its six words, in order. No `From`: document 01 calls them so.
     pub fn words(self) -> [u64; 6]
         ensures { result ≡ words self }
     {

@@ -1,5 +1,5 @@
 -- Every call answers by the table's lines: each answer comes when its line says so, and only then, and a refusal changes nothing.
-use Rattle.std.specs.Prelude.{◌≡◌, ◌⊎◌, Bool, cond, leb, ltb, eqb, get_or}
+use Rattle.std.specs.Prelude.{◌≡◌, ◌⊎◌, Bool, cond, leb, ltb, eqb, get_or, Some, None}
 use Rattle.std.proofs.Math.Path.{refl}
 use Rattle.std.proofs.Common.{sym, ap, ◌∙◌, subst, inl, inr, arith}
 use Rattle.std.proofs.Math.Bool.{true, false}
@@ -7,25 +7,22 @@ use mathlib.Core.List.{List, []}
 use Prim.Native.Nat.{ℕ, suc, ◌+◌, ◌*◌, ◌-◌, ◌≤◌, ◌<◌}
 use Rattle.std.proofs.Math.Decide.{dec_le}
 use Rattle.std.proofs.Math.ListN.{length}
-use Rattle.outcome.specs.Call.{Gives, done, finished}
+use Rattle.outcome.specs.Call.{Gives, done, finished, Outcome}
 use Rattle.outcome.specs.Answers.{is_one_of, are_distinct, Distinct, Answered}
 use Rattle.outcome.specs.AnswersLaws.{Fails, fails_leb, fails_ltb, fails_eqb, fails_and, answered_done, answered_past, answered_refused, answered_check, answered_room, answered_run}
-use Rattle.outcome.specs.declared.Outcome.{Outcome}
 use Rattle.registry.specs.Registry.{number_of, registry_of}
 use Rattle.registry.specs.RegistryLaws.{registry_of_number, registry_of_past, numbered}
 use Rattle.registry.specs.Names.{name_of}
 use Rattle.registry.specs.NameCall.{name_written, named, name_in, name_call}
 use Rattle.registry.specs.declared.Registry.{Registry}
-use Rattle.registry.specs.declared.Found.TheVariants.{Known, Unknown}
 use Rattle.tape.specs.Record.{label_of, shape_of, zeros}
 use Rattle.tape.specs.Layout.{width, room_of}
 use Rattle.tape.specs.Tape.{used, room, headed, with_used, record_at, load}
 use Rattle.tape.specs.Forest.{Forest, size}
 use Rattle.tape.specs.declared.Record.{Record}
 use Rattle.calls.specs.Limits.{last_label, last_shape, last_registry}
-use Rattle.calls.specs.Calls.{cleared, clear_call, end_by, cut_back_call, readable, no_record, read_call}
+use Rattle.calls.specs.Calls.{cleared, clear_call, end_by, cut_back_call, readable, no_record, read_call, Reading}
 use Rattle.calls.specs.CallsLaws.{fails_cut}
-use Rattle.calls.specs.declared.Reading.{Reading}
 use Rattle.meaning.specs.Frame.{covered}
 use Rattle.meaning.specs.Table.{usual}
 use Rattle.meaning.specs.Value.{Walk}
@@ -128,7 +125,7 @@ module _ (slim : Bool) (t : List ℕ) (at : ℕ) where
 
 -- a number is a registry's, and not over 5; or it is no registry's, and over 5
 abbrev KnownOrNot : ℕ → Type 0
-KnownOrNot n = ((registry : Registry) × (registry_of n ≡ Known registry) × (n ≡ number_of registry) × (n ≤ 5)) ⊎ ((registry_of n ≡ Unknown) × (5 < n))
+KnownOrNot n = ((registry : Registry) × (registry_of n ≡ Some registry) × (n ≡ number_of registry) × (n ≤ 5)) ⊎ ((registry_of n ≡ None) × (5 < n))
 
 known_or_not : (n : ℕ) → KnownOrNot n
 known_or_not n = go (dec_le 6 n)
@@ -166,7 +163,7 @@ module _ (slim : Bool) (shows : Walk) (registry : ℕ) (area : List ℕ) (base :
   unfolding call_in fitted
   area_lines_lem = go (known_or_not registry)
     where
-      known : (r : Registry) → number_of r ≤ 5 → Answered (area_lines slim shows (number_of r) area base t) t (call_in slim shows (Known r) area base t)
+      known : (r : Registry) → number_of r ≤ 5 → Answered (area_lines slim shows (number_of r) area base t) t (call_in slim shows (Some r) area base t)
       known r low =
           let trees : Forest = shows (number_of r) area base in
           answered_past (no_registry (number_of r)) _ t _ (λ past. omega (arith, low))
@@ -179,7 +176,7 @@ module _ (slim : Bool) (shows : Walk) (registry : ℕ) (area : List ℕ) (base :
       go : KnownOrNot registry → Answered (area_lines slim shows registry area base t) t (area_call slim shows registry area base t)
       go (inl x) =
           rw x.1
-          (subst (λ (n : ℕ). Answered (area_lines slim shows n area base t) t (call_in slim shows (Known x.0) area base t)) (sym x.2) (known x.0 (subst (λ (n : ℕ). n ≤ 5) x.2 x.3)))
+          (subst (λ (n : ℕ). Answered (area_lines slim shows n area base t) t (call_in slim shows (Some x.0) area base t)) (sym x.2) (known x.0 (subst (λ (n : ℕ). n ≤ 5) x.2 x.3)))
       go (inr x) = rw x.0 (answered_refused (no_registry registry) _ t x.1)
 
   -- for walk shows is `walked usual`, and for push `pushed usual`

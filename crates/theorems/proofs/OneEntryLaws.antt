@@ -5,8 +5,7 @@ use Rattle.std.proofs.Common.{◌∙◌, subst, arith}
 use mathlib.Core.List.{List, [], ◌∷◌, map}
 use Prim.Native.Nat.{ℕ, suc, ◌+◌}
 use Rattle.std.proofs.Math.ListN.{drop}
-use Rattle.outcome.specs.Call.{After, Gives}
-use Rattle.outcome.specs.declared.Outcome.{Outcome}
+use Rattle.outcome.specs.Call.{After, Gives, Outcome}
 use Rattle.tape.specs.Record.{moved}
 use Rattle.tape.specs.Tape.{used, load}
 use Rattle.tape.specs.HeaderLaws.{headed_in_order}

@@ -1,10 +1,8 @@
 -- The table of answers (document 01, 'Numbers a call gives back'): its lines, and which of them each call checks.
-use Rattle.std.specs.Prelude.{Bool, true, ◌≡◌, ◌⊎◌, List, [], ◌∷◌, ℕ, suc, ◌+◌, ◌*◌, ◌-◌, ◌≤◌, ◌<◌, length, get_or}
+use Rattle.std.specs.Prelude.{Bool, true, ◌≡◌, ◌⊎◌, List, [], ◌∷◌, ℕ, suc, ◌+◌, ◌*◌, ◌-◌, ◌≤◌, ◌<◌, length, get_or, Option, Some, None}
 use Rattle.outcome.specs.Answers.{Line}
 use Rattle.registry.specs.Registry.{registry_of}
 use Rattle.registry.specs.Names.{name_of}
-use Rattle.registry.specs.declared.Found.{Found}
-use Rattle.registry.specs.declared.Found.TheVariants.{Known, Unknown}
 use Rattle.tape.specs.Record.{label_of, shape_of}
 use Rattle.tape.specs.Layout.{width, room_of}
 use Rattle.tape.specs.Tape.{used, room, record_at}
@@ -15,6 +13,7 @@ use Rattle.meaning.specs.Table.{usual}
 use Rattle.meaning.specs.Value.{Walk}
 use Rattle.meaning.specs.Area.{pushed}
 use Rattle.meaning.specs.Dump.{input_registry, input_base, input_area, longest_dumped}
+use Rattle.registry.specs.declared.Registry.{Registry}
 
 -- the lines
 
@@ -82,9 +81,9 @@ area_lines slim shows registry area base t =
     no_registry registry ∷ too_long area ∷ too_far area base ∷ no_tape slim t ∷ too_many slim (size (shows registry area base)) t ∷ []
 
 -- the name of a type in the registry that was found
-abbrev name_by : Found → ℕ → List ℕ
-name_by Unknown t = []
-name_by (Known registry) t = name_of registry t
+abbrev name_by : Option Registry → ℕ → List ℕ
+name_by None t = []
+name_by (Some registry) t = name_of registry t
 
 -- name: 1, 9
 abbrev pub name_lines : ℕ → ℕ → List ℕ → List Line

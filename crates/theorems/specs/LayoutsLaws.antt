@@ -1,5 +1,5 @@
 -- From equal records, neither tape refused under 4, the two layouts give equal records, outcomes and answers.
-use Rattle.std.specs.Prelude.{◌≡◌, true, false, ℕ, ◌+◌, ◌-◌, ◌≤◌, ◌<◌, leb, ltb, take, drop}
+use Rattle.std.specs.Prelude.{◌≡◌, true, false, ℕ, ◌+◌, ◌-◌, ◌≤◌, ◌<◌, leb, ltb, take, drop, Option, Some, None}
 use Rattle.std.proofs.Math.Path.{refl, sym, ap}
 use Rattle.std.proofs.Common.{◌∙◌, arith, le-leb, leb-true, le-ltb, take_at}
 use Rattle.std.proofs.Math.Bool.{Bool, cond}
@@ -9,23 +9,19 @@ use Rattle.std.proofs.Math.Decide.{dec_le}
 use Rattle.std.proofs.lemmas.Bool.{lt-leb}
 use Rattle.std.proofs.Math.ListN.{length}
 use Rattle.std.proofs.Math.Seq.{drop_at}
-use Rattle.outcome.specs.Call.{After, Gives, done, refused, refusal, finished, no_room}
+use Rattle.outcome.specs.Call.{After, Gives, done, refused, refusal, finished, no_room, Outcome}
 use Rattle.outcome.specs.CallLaws.{gives_after}
-use Rattle.outcome.specs.declared.Outcome.{Outcome}
 use Rattle.registry.specs.Registry.{number_of, registry_of}
-use Rattle.registry.specs.declared.Found.{Found}
-use Rattle.registry.specs.declared.Found.TheVariants.{Known, Unknown}
 use Rattle.tape.specs.Tape.{InOrder, used, room, headed, with_used, record_at, load, store}
 use Rattle.tape.specs.HeaderLaws.{headed_in_order}
 use Rattle.tape.specs.LoadLaws.{load_append, load_before, load_with_used, length_load, used_with_used}
 use Rattle.tape.specs.Near.{Near}
 use Rattle.tape.specs.Forest.{Forest, size, flat}
 use Rattle.tape.specs.declared.Record.{Record}
-use Rattle.calls.specs.Calls.{cleared, clear_call, end_by, cut_back_call, readable, no_record, read_call}
+use Rattle.calls.specs.Calls.{cleared, clear_call, end_by, cut_back_call, readable, no_record, read_call, Reading}
 use Rattle.calls.specs.CallsLaws.{used_cleared}
 use Rattle.calls.specs.Nest.{nest_test}
 use Rattle.calls.specs.WellNestedLaws.{yes_nested, nested_yes}
-use Rattle.calls.specs.declared.Reading.{Reading}
 use Rattle.meaning.specs.Frame.{covered}
 use Rattle.meaning.specs.Value.{Walk}
 use Rattle.meaning.specs.Table.{usual}
@@ -36,6 +32,7 @@ use Rattle.theorems.specs.Nearby.{Nearby}
 use Rattle.theorems.specs.NearbyLaws.{usual_nearby}
 use Rattle.theorems.specs.Entries.{leave, show}
 use Rattle.theorems.specs.Layouts.{Same, Writing, clear, walk, push, cut_back, made, NotUnder, Agreed}
+use Rattle.registry.specs.declared.Registry.{Registry}
 
 -- the used records of a tape that trees were appended to
 appended_records : (slim : Bool) (t : List ℕ) (trees : Forest) → InOrder slim t → size trees ≤ room slim t - used t → Near trees
@@ -116,11 +113,11 @@ module _ (slim slim' : Bool) (t u : List ℕ) (same : Same slim slim' t u) where
       go false true less fits' = record { needed = refl; outcome = λ has has'. absurd (has refl); records = λ has has'. absurd (has refl) }
       go false false less less' = agreed_refused (no_room (size trees))
 
-  agreed_in : (shows : Walk) → Nearby shows → (found : Found) (area : List ℕ) (base : ℕ) → NotUnder 4 (call_in slim shows found area base t) → NotUnder 4 (call_in slim' shows found area base u)
+  agreed_in : (shows : Walk) → Nearby shows → (found : Option Registry) (area : List ℕ) (base : ℕ) → NotUnder 4 (call_in slim shows found area base t) → NotUnder 4 (call_in slim' shows found area base u)
       → Agreed slim slim' (call_in slim shows found area base t) (call_in slim' shows found area base u)
   unfolding call_in
-  agreed_in shows nearby Unknown area base tape tape' = agreed_refused (refused 1)
-  agreed_in shows nearby (Known registry) area base tape tape' =
+  agreed_in shows nearby None area base tape tape' = agreed_refused (refused 1)
+  agreed_in shows nearby (Some registry) area base tape tape' =
       go (leb (length area) longest) (leb (base + length area) furthest) refl (headed slim t) refl (headed slim' u) refl tape tape'
     where
       trees : Forest

@@ -1,5 +1,5 @@
 -- A call that shows an area: old records change nothing.
-use Rattle.std.specs.Prelude.{◌≡◌, Bool, cond, List, get_or, take}
+use Rattle.std.specs.Prelude.{◌≡◌, Bool, cond, List, get_or, take, Option, Some, None}
 use Rattle.std.proofs.Math.Path.{refl}
 use Rattle.std.proofs.Common.{sym, ap, ◌∙◌, inl, arith, le-leb, leb-true, length-take, get_or-take, ext_get_or}
 use Rattle.std.proofs.Math.Bool.{true, false}
@@ -8,12 +8,9 @@ use Rattle.std.proofs.Math.Decide.{dec_le}
 use Rattle.std.proofs.lemmas.Bool.{lt-leb}
 use Rattle.std.proofs.Math.Dec.{leb}
 use Rattle.std.proofs.Math.ListN.{length}
-use Rattle.outcome.specs.Call.{After, Gives, refused, refusal, no_room}
+use Rattle.outcome.specs.Call.{After, Gives, refused, refusal, no_room, Outcome}
 use Rattle.outcome.specs.CallLaws.{gives_after}
-use Rattle.outcome.specs.declared.Outcome.{Outcome}
 use Rattle.registry.specs.Registry.{number_of, registry_of}
-use Rattle.registry.specs.declared.Found.{Found}
-use Rattle.registry.specs.declared.Found.TheVariants.{Known, Unknown}
 use Rattle.tape.specs.LayoutLaws.{word_late}
 use Rattle.tape.specs.Tape.{InOrder, used, room, headed, load}
 use Rattle.tape.specs.HeaderLaws.{headed_in_order}
@@ -25,6 +22,7 @@ use Rattle.meaning.specs.AreaCall.{longest, furthest, appended, shown, fitted, c
 use Rattle.meaning.proofs.AreaCallLaws.{number_low, appended_used, appended_load, appended_other, length_appended}
 use Rattle.theorems.specs.Nearby.{Nearby}
 use Rattle.theorems.specs.OldRecords.{Alike, Untouched, Unmoved}
+use Rattle.registry.specs.declared.Registry.{Registry}
 
 -- what is left as it was
 kept : {slim : Bool} {t : List ℕ} {o : Outcome} → Untouched slim t (record { outcome = o; lent = t })
@@ -104,10 +102,10 @@ module _ (slim : Bool) (t u : List ℕ) (alike : Alike slim t u) where
       go true fits = unmoved_shown trees good near (leb-true _ _ fits) octets
       go false less = unmoved_refused (no_room (size trees)) refl
 
-  unmoved_in : (shows : Walk) → Nearby shows → (found : Found) (area : List ℕ) (base : ℕ) → Unmoved slim t u (call_in slim shows found area base t) (call_in slim shows found area base u)
+  unmoved_in : (shows : Walk) → Nearby shows → (found : Option Registry) (area : List ℕ) (base : ℕ) → Unmoved slim t u (call_in slim shows found area base t) (call_in slim shows found area base u)
   unfolding call_in
-  unmoved_in shows nearby Unknown area base = unmoved_refused (refused 1) refl
-  unmoved_in shows nearby (Known registry) area base =
+  unmoved_in shows nearby None area base = unmoved_refused (refused 1) refl
+  unmoved_in shows nearby (Some registry) area base =
       rw (← same_headed) (go (leb (length area) longest) (leb (base + length area) furthest) refl (headed slim t) refl)
     where
       octets : ℕ

@@ -1,7 +1,6 @@
 -- Demand 3, of what the calls walk and push give back and leave: one entry cannot speak for another.
 use Rattle.std.specs.Prelude.{Bool, ◌≡◌, List, ◌∷◌, ◌++◌, map, ℕ, suc, ◌+◌, ◌-◌, length, drop}
-use Rattle.outcome.specs.Call.{Gives}
-use Rattle.outcome.specs.declared.Outcome.{Outcome}
+use Rattle.outcome.specs.Call.{Gives, Outcome}
 use Rattle.tape.specs.Record.{moved}
 use Rattle.tape.specs.Tape.{used, load}
 use Rattle.tape.specs.Forest.{size}

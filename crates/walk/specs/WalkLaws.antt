@@ -1,146 +1,93 @@
 -- A walk and a push, out of their parts.
-use Rattle.std.specs.Prelude.{Bool, ◌≡◌, ℕ, ◌+◌, ◌-◌, ◌≤◌, ◌<◌, get_or, take, drop}
-use Rattle.std.proofs.Math.Path.{sym, ap}
-use Rattle.std.proofs.Common.{◌∙◌, add-zero, arith, length-drop, length-take-le}
-use mathlib.Core.List.{List, [], ◌∷◌}
-use Rattle.std.proofs.Math.ListN.{length}
+use Rattle.std.specs.Prelude.{◌≡◌, refl, Bool, List, [], ◌∷◌, ℕ, ◌+◌, ◌-◌, ◌≤◌, ◌<◌, Some, None, length, take, drop}
+use Rattle.std.proofs.Common.{ap, sym, ◌∙◌, arith, length-take-le}
 use Rattle.tape.specs.Record.{container_record}
-use Rattle.tape.specs.Tape.{put_at}
 use Rattle.tape.specs.Forest.{Forest, size}
 use Rattle.tape.specs.ForestLaws.{size-⧺}
-use Rattle.tape.specs.Laid.{Laid, Room, RoomFor}
-use Rattle.tape.proofs.LaidLaws.{laid_none, laid_then}
-use Rattle.tape.proofs.Laying.{laying_room, laying_inside}
-use Rattle.tape.specs.declared.Position.{Position}
+use Rattle.store.specs.Pen.{HasRoom, HasRoomTo, Writes, Skips, Puts}
+use Rattle.store.specs.PenLaws.{room_as, writes_as, writes_none, writes_then, room_behind}
+use Rattle.store.specs.declared.pen.Pen.{Pen}
 use Rattle.meaning.specs.Tree.{content, raw}
-use Rattle.meaning.specs.Cut.{pieces, each}
+use Rattle.meaning.specs.Complete.{complete}
+use Rattle.meaning.specs.CompleteLaws.{complete_is, complete_none}
+use Rattle.meaning.specs.Cut.{pieces}
 use Rattle.meaning.specs.Frame.{entry_length, entries, covered, remainder}
-use Rattle.meaning.specs.FrameLaws.{entry_fits, entry_here, entry_over, covered_none}
-use Rattle.meaning.specs.PlaceLaws.{left_step, part_rest}
+use Rattle.meaning.specs.FrameLaws.{entry_fits, entry_two, covered_none}
 use Rattle.meaning.specs.Array.{array_of}
 use Rattle.meaning.specs.Table.{usual}
 use Rattle.meaning.specs.Value.{push_by}
-use Rattle.meaning.specs.Area.{entry_trees, walk_trees, walked, pushed}
+use Rattle.meaning.specs.Area.{walk_trees, walked, pushed}
 use Rattle.meaning.specs.AreaLaws.{walk_shows}
 use Rattle.theorems.specs.TheCalls.{walk_again}
-use Rattle.fields.specs.Shows.{Shows, array_by}
-use Rattle.fields.specs.Cutting.{CutOff, cut_off_step, cutting_end}
-use Rattle.fields.specs.declared.Shown.{Shown}
+use Rattle.fields.specs.Shows.{WritesUpTo, array_by}
+use Rattle.fields.specs.Cutting.{Cutting, cutting_step, cutting_room, cutting_past, cutting_end}
+use Rattle.walk.specs.Entry.{entry_in}
 
--- the entry that stands first, as the code passes it on
-abbrev first : List ℕ → List ℕ
-first octets = take (2 + get_or octets 1 0 - 0) octets
-
-pub first_inside : (octets : List ℕ) → 2 + get_or octets 1 0 ≤ length octets → length (first octets) ≤ length octets
-first_inside octets fits = omega (arith, length-take-le (2 + get_or octets 1 0 - 0) octets (omega arith))
+-- the same trees, up to the same octet
+pub upto_as : {L : Type 0} {slim : Bool} {f g : Forest} {m n r : ℕ} {p q : Pen L} → m ≡ n → f ≡ g → WritesUpTo slim m f p q r → WritesUpTo slim n g p q r
+upto_as a b h = record { covers = h.covers ∙ a; writes = writes_as (sym b) h.writes }
 
 -- an area in registry k, whose first octet stands at base
 module _ (k : ℕ) (area : List ℕ) (base : ℕ) where
-  -- what an entry becomes
-  abbrev pub each_entry : List ℕ → ℕ → Forest
-  each_entry = entry_trees usual (walked usual) k
-
-  -- where the area is empty, nothing is shown
-  pub walk_none : {slim : Bool} {t : List ℕ} {at : Position} → length area ≡ 0 → Shows slim (covered area) (walked usual k area base) t t at.0 (record { covered = 0; next = at })
+  -- where it is empty, nothing is shown
+  pub walk_none : {L : Type 0} {slim : Bool} (p : Pen L) → length area ≡ 0 → WritesUpTo slim (covered area) (walked usual k area base) p p 0
   unfolding walk_trees
-  walk_none empty = go area empty
+  walk_none {L} {slim} p empty = go area empty
     where
-      go : (a : List ℕ) → length a ≡ 0 → {slim : Bool} {t : List ℕ} {at : Position} → Shows slim (covered a) (walked usual k a base) t t at.0 (record { covered = 0; next = at })
-      go [] empty = record { covers = sym covered_none; laid = rw (walk_again k [] base) laid_none }
+      go : (a : List ℕ) → length a ≡ 0 → WritesUpTo slim (covered a) (walked usual k a base) p p 0
+      go [] empty = record { covers = sym covered_none; writes = rw (walk_again k [] base) writes_none }
       go (x ∷ xs) empty = absurd (omega arith)
 
-  -- otherwise the array of its entries
-  walk_some : 0 < length area → walked usual k area base ≡ array_by 4 k each_entry base (pieces entry_length area)
+  -- otherwise it is the array of its entries
+  pub walk_some : 0 < length area → walked usual k area base ≡ array_by 4 k (entry_in k) base (pieces entry_length area)
   unfolding array_of entries
   walk_some some = walk_again k area base ∙ walk_shows usual (walked usual) k area base (λ empty. omega (arith, ap length empty))
 
-  -- a turn: the entry that stands first is laid, and there are the octets behind it
-  pub turn_made : {slim : Bool} {t u v octets : List ℕ} {from place next after : ℕ} → CutOff slim entry_length each_entry base area t u from octets place next → 2 + get_or octets 1 0 ≤ length octets
-      → Laid slim (each_entry (first octets) place) u v next after
-      → CutOff slim entry_length each_entry base area t v from (take (length octets - (2 + get_or octets 1 0)) (drop (2 + get_or octets 1 0) octets)) (place + (2 + get_or octets 1 0)) after
-  turn_made {octets = octets} c fits laid =
-      let w : ℕ = 2 + get_or octets 1 0 in
-      let same : w - 0 ≡ w = omega arith in
-      rw (part_rest w octets) (cut_off_step entry_fits w c (entry_here octets fits) (omega arith) (rw same at laid))
-
-  -- entries are laid behind position at; octets are left, of which the first stands at place
-  module _ {slim : Bool} {t u octets : List ℕ} {at place next : ℕ} (c : CutOff slim entry_length each_entry base area t u (at + 1) octets place next) where
-    -- the room that the next entry has, of w octets
-    pub next_room : (w : ℕ) → entry_length octets ≡ w → 0 < w → Room slim (walked usual k area base) (length area) base t at
-        → Room slim (each_entry (take w octets) place) (length (take w octets)) place u next
-    next_room w is some room =
-        let i = c.cut in
-        let here : entry_length (drop i area) ≡ w = rw c.rest at is in
-        let fits : w ≤ length (drop i area) = rw here at (entry_fits (drop i area)) in
-        let step = left_step entry_length entry_fits each_entry base area i w here some in
-        rw (c.rest, c.there) (record {
-          octet = omega (arith, room.octet, length-take-le w (drop i area) fits, fits, length-drop i area);
-          position = record {
-            fits = omega (
-              arith,
-              room.position.fits,
-              c.cutting.kept,
-              laying_room (i + w) (each_entry (take w (drop i area)) (base + i)) c.cutting.laying step,
-              ap size (walk_some (omega (arith, fits, length-drop i area))),
-              ap (λ (n : ℕ). size (each each_entry n (pieces entry_length area))) (add-zero base),
-            );
-            small = omega (arith, room.position.small, c.cutting.kept);
-          };
-        })
-
+  -- entries are laid by the pen p, which made it q, behind a place that the pen o left free; octets are left, of which the first stands at place
+  module _ {L : Type 0} {slim : Bool} {o p q : Pen L} {octets : List ℕ} {place : ℕ} (skipped : Skips slim 1 o p) (c : Cutting slim entry_length (entry_in k) base area p q octets place) where
     -- the entry that stands first has room
-    pub turn_room : 2 + get_or octets 1 0 ≤ length octets → Room slim (walked usual k area base) (length area) base t at
-        → (2 ≤ length (first octets)) × Room slim (each_entry (first octets) place) (length (first octets)) place u next
-    turn_room fits room =
-        let w : ℕ = 2 + get_or octets 1 0 - 0 in
-        let here : 2 + get_or octets 1 0 ≡ w = omega arith in
-        (omega (arith, length-take-le w octets (omega arith)), next_room w (entry_here octets fits ∙ here) (omega arith) room)
+    pub turn_room : {w : ℕ} → Some w ≡ complete (entry_length octets) → 0 < length area → HasRoom slim o (size (walked usual k area base))
+        → (2 ≤ length (take w octets)) × HasRoom slim q (size (entry_in k (take w octets) place))
+    turn_room {w} is some room =
+        let here = complete_is (entry_length octets) is in
+        let long : length (take w octets) ≡ w = length-take-le w octets (omega (arith, here.0, entry_fits octets)) in
+        let asked = room_as o (sym (walk_some some)) room in
+        (omega (arith, long, here.0, entry_two octets here.1), cutting_room entry_fits 4 k w asked skipped c here.0 (omega (arith, here)))
+
+    -- a turn: the entry that stands first is laid, and there are the octets behind it
+    pub turn_made : {r : Pen L} {w : ℕ} → Some w ≡ complete (entry_length octets) → Writes slim (entry_in k (take w octets) place) q r
+        → Cutting slim entry_length (entry_in k) base area p r (drop w octets) (place + w)
+    turn_made {w = w} is wrote = let here = complete_is (entry_length octets) is in cutting_step entry_fits w c here.0 (omega (arith, here)) wrote
 
     -- the room that the array has, up to the position after the entries
-    pub area_past : 0 < length area → Room slim (walked usual k area base) (length area) base t at → RoomFor slim u next × (at < next)
-    area_past some room =
-        let inside = laying_inside c.cutting.laying in
-        let whole = ap (λ (n : ℕ). size (each each_entry n (pieces entry_length area))) (add-zero base) in (
-          record { fits = omega (arith, room.position.fits, c.cutting.kept, inside.1, whole, ap size (walk_some some)); small = omega (arith, room.position.small, c.cutting.kept) },
-          omega (arith, inside.0),
-        )
+    pub area_past : 0 < length area → HasRoom slim o (size (walked usual k area base)) → HasRoomTo slim q q.next.0 × (o.next.0 < q.next.0)
+    area_past some room = cutting_past entry_fits 4 k (room_as o (sym (walk_some some)) room) skipped c
 
     -- after the last entry the array is put in front
-    pub walk_made : {v : List ℕ} {r : Shown} → 0 < length area → length octets < 2 + get_or octets 1 0 → r.next.0 ≡ next → base + r.covered ≡ place
-        → v ≡ put_at slim u at (container_record (content 4 7 k base (base + r.covered) 0) (at + 1) next)
-        → Shows slim (covered area) (walked usual k area base) t v at r
+    pub walk_made : {r : Pen L} {n : ℕ} → 0 < length area → None ≡ complete (entry_length octets) → n ≡ length area - length octets
+        → Puts slim o.next.0 (container_record (content 4 7 k (base + 0) (base + 0 + n) 0) (o.next.0 + 1) q.next.0 ∷ []) q r → WritesUpTo slim (covered area) (walked usual k area base) o r n
     unfolding covered entries
-    walk_made {r = r} some over after ends put =
-        let covers : r.covered ≡ c.cut = omega (arith, ends, c.there) in
-        rw (walk_some some) (cutting_end entry_fits 4 k (rw (sym after) at c.cutting) (rw c.rest at (entry_over octets over)) (rw (sym after, covers) at put) covers)
+    walk_made some stops covers put = upto_as refl (sym (walk_some some)) (cutting_end entry_fits 4 k skipped c (complete_none (entry_length octets) stops) put covers)
 
-  -- push
+  -- a push is the walk and the remainder
+  push_is : pushed usual k area base ≡ push_by (walked usual) k area base
+  unfolding pushed
+  push_is = refl
+
+  push_size : size (pushed usual k area base) ≡ size (walked usual k area base) + size (raw k (base + covered area) (drop (covered area) area))
+  unfolding pushed push_by remainder
+  push_size = size-⧺ (walked usual k area base) (raw k (base + covered area) (drop (covered area) area))
 
   -- the room that the walk has in a push
-  pub push_room : {slim : Bool} {t : List ℕ} {at : ℕ} → Room slim (pushed usual k area base) (length area) base t at → Room slim (walked usual k area base) (length area) base t at
-  unfolding pushed push_by
-  push_room room =
-      let both = size-⧺ (walked usual k area base) (raw k (base + covered area) (remainder area)) in
-      record { octet = room.octet; position = record { fits = omega (arith, room.position.fits, both); small = room.position.small } }
+  pub push_room : {L : Type 0} {slim : Bool} (p : Pen L) → HasRoom slim p (size (pushed usual k area base)) → HasRoom slim p (size (walked usual k area base))
+  push_room p asked = record { fits = omega (arith, asked.fits, push_size); small = asked.small }
 
-  -- the room that the remainder has, behind the walk
-  pub remainder_room : {slim : Bool} {t u : List ℕ} {at : ℕ} {s : Shown} → Room slim (pushed usual k area base) (length area) base t at → Shows slim (covered area) (walked usual k area base) t u at s
-      → Room slim (raw k (base + s.covered) (drop s.covered area)) (length area) base u s.next.0
-  unfolding pushed push_by remainder
-  remainder_room room walk =
-      let both = size-⧺ (walked usual k area base) (raw k (base + covered area) (drop (covered area) area)) in
-      rw walk.covers (record {
-        octet = room.octet;
-        position = record {
-          fits = omega (arith, room.position.fits, both, walk.laid.place, walk.laid.same);
-          small = omega (arith, room.position.small, walk.laid.same);
-        };
-      })
+  module _ {L : Type 0} {slim : Bool} {p q : Pen L} {n : ℕ} (walk : WritesUpTo slim (covered area) (walked usual k area base) p q n) where
+    -- the room that the remainder has, behind the walk
+    pub remainder_room : HasRoom slim p (size (pushed usual k area base)) → HasRoom slim q (size (raw k (base + n) (drop n area)))
+    remainder_room asked = rw walk.covers (room_behind _ walk.writes asked (omega (arith, push_size)))
 
-  -- the walk, and the remainder beside it
-  pub push_made : {slim : Bool} {t u w : List ℕ} {at next : ℕ} {s r : Shown} (registry : ℕ) → registry ≡ k → Shows slim (covered area) (walked usual k area base) t u at s
-      → Laid slim (raw registry (base + s.covered) (drop s.covered area)) u w s.next.0 next → r.covered ≡ s.covered → r.next.0 ≡ next
-      → Shows slim (covered area) (pushed usual k area base) t w at r
-  unfolding pushed push_by remainder
-  push_made registry same walk rest covers after =
-      record { covers = covers ∙ walk.covers; laid = rw after (laid_then walk.laid (rw (same, walk.covers) at rest)) }
+    -- the walk, and the remainder beside it
+    pub push_made : {r : Pen L} → Writes slim (raw k (base + n) (drop n area)) q r → WritesUpTo slim (covered area) (pushed usual k area base) p r n
+    unfolding pushed push_by remainder
+    push_made rest = record { covers = walk.covers; writes = writes_then walk.writes (rw walk.covers at rest) }

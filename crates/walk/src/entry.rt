@@ -1,218 +1,116 @@
 // An entry around its value: what its decoder leaves, and the object, the type and the length.
-ghost use Rattle.std.specs.Prelude.{◌≡◌, ◌+◌, ◌≤◌, ◌<◌, ◌^◌, length, drop};
-ghost use Rattle.tape.specs.Laid.{Room, RoomFor, Lays};
-ghost use Rattle.meaning.specs.Tree.{content, raw as raw_trees};
-ghost use Rattle.walk.specs.Rest.{rest_of};
-ghost use Rattle.walk.specs.Entry.{entry_of, leaf_entry, AsksAround, Completes};
+ghost use Rattle.std.specs.Prelude.{◌≡◌, ◌+◌, ◌≤◌, length, get_or};
+ghost use Rattle.registry.specs.Registry.{number_of};
+ghost use Rattle.tape.specs.Forest.{size};
+ghost use Rattle.tape.specs.Near.{NearContent};
+ghost use Rattle.store.specs.Pen.{HasRoom, Writes};
+ghost use Rattle.meaning.specs.Tree.{content};
+ghost use Rattle.fields.specs.Stretches.{of};
+ghost use Rattle.walk.specs.Rest.{raw_from, rest_of, rest_in};
+ghost use Rattle.walk.specs.Entry.{leaf_entry, Completes};
 
-use fields::Source;
-use fields::part::part;
+use fields::part::octets;
+use fields::stretch::Stretch;
 use neighbor::alone::OneLeaf;
-use readings::{Decoded, Taken};
-use store::lay;
+use store::layout::Layout;
+use store::pen::Pen;
 use tape::label::Label;
 use tape::shape::Shape;
-use tape::{Content, Octet, Position};
+use tape::{Content, Position};
 
-// An entry: its registry, the place of its first octet, its type and its length.
+// An entry: its octets, its type and its length. The type is a number, since any octet may stand there. Both are read before
+// anything is written, since after a write they are read again.
 #[derive(Clone, Copy)]
-pub struct Entry {
-    pub registry: u8,
-    pub base: Octet,
+pub struct Entry<'a> {
+    pub octets: Stretch<'a>,
     pub kind: u8,
-    pub length: u8,
+    pub length_octet: u8,
+    ghost two: { 2 ≤ length octets.octets.now },
+    ghost of_kind: { kind ≡ get_or octets.octets.now 0 0 },
+    ghost of_length: { length_octet ≡ get_or octets.octets.now 1 0 },
 }
 
-impl Entry {
+impl<'a> Entry<'a> {
     // The entry that octets are.
-    pub fn of(octets: &[u8], base: Octet, registry: u8) -> Entry
-        requires { 2 ≤ length octets.now }
-        ensures { result ≡ entry_of registry base octets.now }
+    pub fn of(octets: Stretch<'a>) -> Entry<'a>
+        requires { 2 ≤ length octets.octets.now }
+        ensures { result.octets ≡ octets.entry }
     {
         Entry {
-            registry,
-            base,
-            kind: octets[0],
-            length: octets[1],
+            octets,
+            kind: octets.octets[0],
+            length_octet: octets.octets[1],
         }
     }
 
-    // Its `sub_tlv` object, where it has `n` octets.
-    fn object(self, n: usize) -> Content
-        requires { self.base.0 + n < 2 ^ 33 }
-        ensures { result ≡ content 47 8 self.registry self.base.0 (self.base.0 + n) 0 }
+    // Its `sub_tlv` object.
+    fn object(self) -> Content
+        ensures object { let e = self.entry.octets in result ≡ content 47 8 (number_of e.registry) (e.base.0 + 0) (e.base.0 + 0 + length e.octets.now) 0 }
+        ensures near { NearContent result }
     {
-        let start = self.base.0;
-        Content {
-            label: Label::SUB_TLV,
-            shape: Shape::OBJECT,
-            registry: self.registry,
-            start: Octet(start),
-            end: Octet(start + n),
-            number: 0,
-        }
+        let n = self.octets.octets.len();
+        self.octets.content(Label::SubTlv, Shape::Object, 0, n, 0)
     }
 
     // Its type.
     fn type_leaf(self) -> Content
-        requires { self.base.0 < 2 ^ 33 }
-        ensures { result ≡ content 0 0 self.registry self.base.0 (self.base.0 + 1) self.kind }
+        ensures leaf { let e = self.entry.octets in result ≡ content 0 0 (number_of e.registry) (e.base.0 + 0) (e.base.0 + 0 + 1) (get_or e.octets.now 0 0) }
+        ensures near { NearContent result }
     {
-        let start = self.base.0;
-        Content {
-            label: Label::TYPE,
-            shape: Shape::U8,
-            registry: self.registry,
-            start: Octet(start),
-            end: Octet(start + 1),
-            number: self.kind as u64,
-        }
+        self.octets
+            .content(Label::Type, Shape::U8, 0, 1, self.kind as u64)
     }
 
     // Its length.
     fn length_leaf(self) -> Content
-        requires { self.base.0 < 2 ^ 33 }
-        ensures { result ≡ content 1 0 self.registry (self.base.0 + 1) (self.base.0 + 2) self.length }
+        ensures leaf { let e = self.entry.octets in result ≡ content 1 0 (number_of e.registry) (e.base.0 + 1) (e.base.0 + 1 + 1) (get_or e.octets.now 1 0) }
+        ensures near { NearContent result }
     {
-        let start = self.base.0;
-        Content {
-            label: Label::LENGTH,
-            shape: Shape::U8,
-            registry: self.registry,
-            start: Octet(start + 1),
-            end: Octet(start + 2),
-            number: self.length as u64,
-        }
+        self.octets
+            .content(Label::Length, Shape::U8, 1, 1, self.length_octet as u64)
     }
 
-    // Its value, where it has `n` octets and this is one leaf.
-    fn value_leaf(self, n: usize, one: OneLeaf) -> Content
-        requires { (self.base.0 < 2 ^ 33) × (self.base.0 + n < 2 ^ 33) }
-        ensures { result ≡ content one.label one.shape self.registry (self.base.0 + 2) (self.base.0 + n) one.number }
+    // Lays the entry, whose value is one leaf: four records.
+    pub fn lay_leaf<L: Layout>(self, one: OneLeaf, pen: &mut Pen<'_, L>)
+        requires { HasRoom L.SLIM pen.old 4 }
+        ensures { Writes L.SLIM (of (leaf_entry one) self.entry.octets) pen.old pen.new }
     {
-        let start = self.base.0;
-        Content {
-            label: one.label,
-            shape: one.shape,
-            registry: self.registry,
-            start: Octet(start + 2),
-            end: Octet(start + n),
-            number: one.number,
-        }
+        let n = self.octets.octets.len();
+        let value = self
+            .octets
+            .content(one.label, one.shape, 2, n - 2, one.number);
+        pen.container_of_leaves(self.object(), self.type_leaf(), self.length_leaf(), value);
+    }
+
+    // Lays what the entry has around the records of its decoder: what follows these, and the object, the type and the length in front.
+    pub fn complete<L: Layout>(self, taken: Option<usize>, at: Position, pen: &mut Pen<'_, L>)
+        requires { HasRoom L.SLIM pen.old (size (of (rest_in taken) self.octets)) × (at.0 + 3 ≤ pen.old.next.0) }
+        ensures { Completes L.SLIM taken at.0 self.entry.octets pen.old pen.new }
+    {
+        rest(self.octets.from(2), taken, pen);
+        pen.container_of_two(at, self.object(), self.type_leaf(), self.length_leaf());
     }
 }
 
 // Lays the octets from `at` on as one `raw` record, or nothing where there are none.
-pub fn raw(
-    octets: &[u8],
-    source: Source,
-    at: usize,
-    tape: &mut [u64],
-    slim: bool,
-    position: Position,
-) -> Position
-    requires { Room slim (raw_trees source.registry (source.base.0 + at) (drop at octets.now)) (length octets.now) source.base.0 tape.old position.0 }
-    ensures { Lays slim (raw_trees source.registry (source.base.0 + at) (drop at octets.now)) tape position result }
+pub fn raw<L: Layout>(value: Stretch, at: usize, pen: &mut Pen<'_, L>)
+    requires { HasRoom L.SLIM pen.old (size (of (raw_from at) value)) }
+    ensures { Writes L.SLIM (of (raw_from at) value.entry) pen.old pen.new }
 {
-    let n = octets.len();
-    if n <= at {
-        return position;
+    let n = value.octets.len();
+    if at < n {
+        octets(value, Label::Raw, Shape::Bytes, at, n - at, pen);
     }
-    part(
-        source,
-        Label::RAW,
-        Shape::BYTES,
-        at,
-        n - at,
-        0,
-        tape,
-        slim,
-        position,
-    )
 }
 
 // Lays what follows a decoder's records: the octets that it did not take, or the whole value.
-fn rest(
-    value: &[u8],
-    source: Source,
-    taken: Taken,
-    tape: &mut [u64],
-    slim: bool,
-    position: Position,
-) -> Position
-    requires { Room slim (rest_of source.registry value.now source.base.0 taken) (length value.now) source.base.0 tape.old position.0 }
-    ensures { Lays slim (rest_of source.registry value.now source.base.0 taken) tape position result }
+fn rest<L: Layout>(value: Stretch, taken: Option<usize>, pen: &mut Pen<'_, L>)
+    requires { HasRoom L.SLIM pen.old (size (of (rest_of taken) value)) }
+    ensures { Writes L.SLIM (of (rest_of taken) value.entry) pen.old pen.new }
 {
+    let n = value.octets.len();
     match taken {
-        Taken::Octets(k) => raw(value, source, k, tape, slim, position),
-        Taken::Nothing => {
-            let n = value.len();
-            part(
-                source,
-                Label::VALUE,
-                Shape::BYTES,
-                0,
-                n,
-                0,
-                tape,
-                slim,
-                position,
-            )
-        }
+        Some(k) => raw(value, k, pen),
+        None => octets(value, Label::Value, Shape::Bytes, 0, n, pen),
     }
-}
-
-// Lays what an entry has around the records of its decoder: what follows these, and the object, the type and the length in front.
-pub fn complete(
-    entry: Entry,
-    value: &[u8],
-    decoded: Decoded,
-    tape: &mut [u64],
-    slim: bool,
-    at: Position,
-) -> Position
-    requires { AsksAround slim entry value decoded tape at }
-    ensures { Completes slim entry value decoded tape at result }
-{
-    let n = value.len();
-    let taken = decoded.taken;
-    let after = decoded.next;
-    let source = Source {
-        registry: entry.registry,
-        base: Octet(entry.base.0 + 2),
-    };
-    let next = rest(value, source, taken, tape, slim, after);
-    lay::container_of_two(
-        tape,
-        slim,
-        at,
-        entry.object(2 + n),
-        entry.type_leaf(),
-        entry.length_leaf(),
-        next,
-    );
-    next
-}
-
-// Lays an entry of `n` octets whose value is one leaf: four records.
-pub fn entry_of_leaf(
-    entry: Entry,
-    n: usize,
-    one: OneLeaf,
-    tape: &mut [u64],
-    slim: bool,
-    at: Position,
-) -> Position
-    requires { (2 ≤ n) × (entry.base.0 + n < 2 ^ 32) × RoomFor slim tape.old (at.0 + 4) }
-    ensures { Lays slim (leaf_entry entry n one) tape at result }
-{
-    lay::container_of_leaves(
-        tape,
-        slim,
-        at,
-        entry.object(n),
-        entry.type_leaf(),
-        entry.length_leaf(),
-        entry.value_leaf(n, one),
-    )
 }

@@ -1,453 +1,197 @@
-// The walk of an area: a walk decodes an entry, and an entry walks again. The remaining octets fall. A registry whose values may
-// hold an area has functions of its own, so that its number is a constant in all that they write; the others are in `plain`.
+// The walk of an area: a walk decodes an entry, and an entry walks again. The remaining octets fall. The registry is a value, not a
+// type, since the check takes no generic functions that call one another with other types.
 #![tactic(auto)]
 
-ghost use Rattle.std.specs.Prelude.{◌+◌, ◌≤◌, ◌<◌, ◌^◌, length};
+ghost use Rattle.std.specs.Prelude.{◌≡◌, ◌+◌, ◌≤◌, cond, eqb, length};
 ghost use Rattle.registry.specs.Registry.{number_of};
-ghost use Rattle.tape.specs.Laid.{Room, RoomFor, Lays};
-ghost use Rattle.meaning.specs.Frame.{covered};
+ghost use Rattle.tape.specs.Forest.{size};
+ghost use Rattle.store.specs.Pen.{HasRoom, Writes};
 ghost use Rattle.meaning.specs.Field.{tail as tail_field};
+ghost use Rattle.meaning.specs.Frame.{covered};
 ghost use Rattle.meaning.specs.Table.{usual};
-ghost use Rattle.meaning.specs.Value.{field_end, field_trees};
+ghost use Rattle.meaning.specs.Value.{field_end};
 ghost use Rattle.meaning.specs.Area.{walked, pushed};
-ghost use Rattle.fields.specs.Shows.{LaysUpTo};
-ghost use Rattle.readings.specs.Reading.{Reads, took, reading, Asks, Decodes};
-ghost use Rattle.readings.specs.Rows.{octets_at};
-ghost use Rattle.walk.specs.Entry.{entry_in, AsksFor};
+ghost use Rattle.fields.specs.Shows.{WritesUpTo};
+ghost use Rattle.fields.specs.Stretches.{of, octets_of};
+ghost use Rattle.readings.specs.Reading.{by_row, Asks, Reads};
+ghost use Rattle.walk.specs.Entry.{entry_in, reading_as, tail_at, IsOneLeaf};
 
-use crate::entry::{Entry, complete, entry_of_leaf, raw};
-use crate::plain::plain_area;
+use crate::entry::{Entry, raw};
+use decoders::binding::binding;
 use decoders::prefix::{end_head, prefix};
 use decoders::router_capability::router_capability;
-use fields::array::container;
-use fields::part::{number16, part};
-use fields::{Shown, Source};
-use neighbor::alone::alone;
+use decoders::srv6_sid::srv6_sid;
+use fields::part::{number, octets};
+use fields::piece::entry_length;
+use fields::stretch::Stretch;
+use neighbor::alone::{OneLeaf, alone};
 use neighbor::{end_x_head, neighbor, system_id};
-use readings::rows::for_type;
-use readings::{Decoded, Taken};
 use registry::Registry;
-use registry::registries::{Neighbor, Prefix, RouterCapability};
+use store::layout::Layout;
+use store::pen::Pen;
 use tape::label::Label;
 use tape::shape::Shape;
-use tape::{Octet, Position};
 
 pub mod entry;
-pub mod plain;
-
-// Lays the 16 octets of an SRv6 SID from `at` on.
-fn sid_octets(
-    source: Source,
-    at: usize,
-    tape: &mut [u64],
-    slim: bool,
-    position: Position,
-) -> Position
-    requires { (source.base.0 + at + 16 < 2 ^ 32) × RoomFor slim tape.old (position.0 + 1) }
-    ensures { Lays slim (octets_at 29 5 at 16 source.registry source.base.0) tape position result }
-{
-    part(
-        source,
-        Label::SRV6_SID,
-        Shape::IPV6,
-        at,
-        16,
-        0,
-        tape,
-        slim,
-        position,
-    )
-}
 
 // The SRv6 tail (RFC 9352, section 7.2): 16 octets of SID, a length octet, and an inner area, which is walked in registry 4.
+// Gives the octets that are taken.
 #[cycle(nesting)]
-fn tail(
-    value: &[u8],
-    source: Source,
-    at: usize,
-    tape: &mut [u64],
-    slim: bool,
-    position: Position,
-) -> Decoded
-    requires { (at + 16 ≤ length value.now) × Room slim (field_trees (walked usual) source.registry value.now source.base.0 (tail_field at)) (length value.now) source.base.0 tape.old position.0 }
-    ensures { Reads slim (took (field_end value.now (tail_field at)) (field_trees (walked usual) source.registry value.now source.base.0 (tail_field at))) tape.old tape.new position.0 result }
+fn tail<L: Layout>(value: Stretch, at: usize, pen: &mut Pen<'_, L>) -> usize
+    requires { (at + 16 ≤ length value.octets.now) × HasRoom L.SLIM pen.old (size (of (tail_at at) value)) }
+    ensures { WritesUpTo L.SLIM (field_end (octets_of value.entry) (tail_field at)) (of (tail_at at) value.entry) pen.old pen.new result }
 {
-    let n = value.len();
-    let base = source.base.0;
+    let n = value.octets.len();
     let length_at = at + 16;
-    let after = sid_octets(source, at, tape, slim, position);
+    octets(value, Label::Srv6Sid, Shape::Ipv6, at, 16, pen);
     if n <= length_at {
-        return Decoded {
-            taken: Taken::Octets(length_at),
-            next: after,
-        };
+        return n;
     }
     let start = length_at + 1;
-    let stop = start + value[length_at] as usize;
-    if n < stop {
-        return Decoded {
-            taken: Taken::Octets(at + 16),
-            next: after,
-        };
+    let length = value.octets[length_at] as usize;
+    if n < start + length {
+        return length_at;
     }
-    let shown = walk(
-        &value[start..stop],
-        Octet(base + start),
-        Registry::Srv6Sid,
-        tape,
-        slim,
-        after,
-    );
-    let covered = shown.covered;
-    let next = shown.next;
-    Decoded {
-        taken: Taken::Octets(start + covered),
-        next,
-    }
+    let inner = value.from(start).first(length).read_in(Registry::Srv6Sid);
+    start + walk(inner, pen)
 }
 
-// A value of registry 0, by its type. The types 43 and 44 differ in the neighbor's system id, 6 octets that type 44 has in front.
-#[cycle(nesting)]
-fn neighbor_value(
-    value: &[u8],
-    kind: u8,
-    base: Octet,
-    tape: &mut [u64],
-    slim: bool,
-    at: Position,
-) -> Decoded
-    requires { Asks slim (reading 0 kind) value base tape at }
-    ensures { Decodes slim (reading 0 kind) value base tape at result }
+// The octets of a neighbor's system id that a value of type 43 or 44 has in front: 6 in type 44.
+fn system_id_width(kind: u8) -> usize
+    ensures { result ≡ cond (eqb kind 44) 6 0 }
 {
-    let n = value.len();
-    let source = Source {
-        registry: Neighbor::NUMBER as u8,
-        base,
-    };
-    match kind {
-        43 | 44 => {
-            let id = for_type(kind, 44, 6) as usize;
-            if n < id + 21 {
-                return Decoded {
-                    taken: Taken::Nothing,
-                    next: at,
-                };
-            }
-            let second = system_id(source, id, tape, slim, at);
-            let next = end_x_head(value, source, id, tape, slim, second);
-            tail(value, source, id + 5, tape, slim, next)
-        }
-        _ => neighbor(value, kind, base, tape, slim, at),
+    if kind == 44 { 6 } else { 0 }
+}
+
+// A value of registry 0, by its type. Type 44 has the neighbor's system id, 6 octets, in front of what type 43 has.
+#[cycle(nesting)]
+fn neighbor_value<L: Layout>(value: Stretch, kind: u8, pen: &mut Pen<'_, L>) -> Option<usize>
+    requires { Asks L.SLIM (of (by_row 0 kind) value) pen.old }
+    ensures { Reads L.SLIM (of (by_row 0 kind) value.entry) pen.old pen.new result }
+{
+    if kind != 43 && kind != 44 {
+        return neighbor(value, kind, pen);
     }
+    let id = system_id_width(kind);
+    if value.octets.len() < id + 21 {
+        return None;
+    }
+    system_id(value, id, pen);
+    end_x_head(value, id, pen);
+    Some(tail(value, id + 5, pen))
 }
 
 // A value of registry 1, by its type.
 #[cycle(nesting)]
-fn prefix_value(
-    value: &[u8],
-    kind: u8,
-    base: Octet,
-    tape: &mut [u64],
-    slim: bool,
-    at: Position,
-) -> Decoded
-    requires { Asks slim (reading 1 kind) value base tape at }
-    ensures { Decodes slim (reading 1 kind) value base tape at result }
+fn prefix_value<L: Layout>(value: Stretch, kind: u8, pen: &mut Pen<'_, L>) -> Option<usize>
+    requires { Asks L.SLIM (of (by_row 1 kind) value) pen.old }
+    ensures { Reads L.SLIM (of (by_row 1 kind) value.entry) pen.old pen.new result }
 {
-    let n = value.len();
-    let source = Source {
-        registry: Prefix::NUMBER as u8,
-        base,
-    };
-    match kind {
-        5 => {
-            if n < 19 {
-                return Decoded {
-                    taken: Taken::Nothing,
-                    next: at,
-                };
-            }
-            let next = end_head(value, source, tape, slim, at);
-            tail(value, source, 3, tape, slim, next)
-        }
-        _ => prefix(value, kind, base, tape, slim, at),
+    if kind != 5 {
+        return prefix(value, kind, pen);
     }
+    if value.octets.len() < 19 {
+        return None;
+    }
+    end_head(value, pen);
+    Some(tail(value, 3, pen))
 }
 
 // A value of registry 2, by its type.
 #[cycle(nesting)]
-fn router_value(
-    value: &[u8],
-    kind: u8,
-    base: Octet,
-    tape: &mut [u64],
-    slim: bool,
-    at: Position,
-) -> Decoded
-    requires { Asks slim (reading 2 kind) value base tape at }
-    ensures { Decodes slim (reading 2 kind) value base tape at result }
+fn router_value<L: Layout>(value: Stretch, kind: u8, pen: &mut Pen<'_, L>) -> Option<usize>
+    requires { Asks L.SLIM (of (by_row 2 kind) value) pen.old }
+    ensures { Reads L.SLIM (of (by_row 2 kind) value.entry) pen.old pen.new result }
 {
-    let n = value.len();
-    let source = Source {
-        registry: RouterCapability::NUMBER as u8,
-        base,
-    };
-    match kind {
-        25 => {
-            if n < 2 {
-                return Decoded {
-                    taken: Taken::Nothing,
-                    next: at,
-                };
-            }
-            let after = number16(value, source, Label::SRV6_FLAGS, 0, tape, slim, at);
-            let shown = push(
-                &value[2..n],
-                Octet(base.0 + 2),
-                Registry::Unregistered,
-                tape,
-                slim,
-                after,
-            );
-            let next = shown.next;
-            Decoded {
-                taken: Taken::Octets(n),
-                next,
-            }
-        }
-        _ => router_capability(value, kind, base, tape, slim, at),
+    if kind != 25 {
+        return router_capability(value, kind, pen);
+    }
+    let n = value.octets.len();
+    if n < 2 {
+        return None;
+    }
+    number::<2, L>(value, Label::Srv6Flags, 0, pen);
+    push(value.from(2).read_in(Registry::Unregistered), pen);
+    Some(n)
+}
+
+// A value by its registry and its type; no type of registry 5 is read.
+#[cycle(nesting)]
+fn decode<L: Layout>(value: Stretch, kind: u8, pen: &mut Pen<'_, L>) -> Option<usize>
+    requires { Asks L.SLIM (of (reading_as kind) value) pen.old }
+    ensures { Reads L.SLIM (of (reading_as kind) value.entry) pen.old pen.new result }
+{
+    match value.registry {
+        Registry::Neighbor => neighbor_value(value, kind, pen),
+        Registry::Prefix => prefix_value(value, kind, pen),
+        Registry::RouterCapability => router_value(value, kind, pen),
+        Registry::Binding => binding(value, kind, pen),
+        Registry::Srv6Sid => srv6_sid(value, kind, pen),
+        Registry::Unregistered => None,
     }
 }
 
-// Lays an entry of registry 0: four records where its value is one leaf.
-#[cycle(nesting)]
-fn neighbor_entry(
-    octets: &[u8],
-    base: Octet,
-    tape: &mut [u64],
-    slim: bool,
-    at: Position,
-) -> Position
-    requires { (2 ≤ length octets.now) × AsksFor slim (entry_in 0) octets base tape at }
-    ensures { Lays slim (entry_in 0 octets.now base.0) tape at result }
+// The one leaf that a value is, where it is known to be one: told for registry 0 alone, where most entries are.
+fn one_leaf(value: Stretch, kind: u8) -> Option<OneLeaf>
+    ensures { IsOneLeaf (number_of value.entry.registry) kind (octets_of value.entry) result }
 {
-    let n = octets.len();
-    let entry = Entry::of(octets, base, Neighbor::NUMBER as u8);
-    let kind = entry.kind;
-    let inside = Octet(base.0 + 2);
-    let value = &octets[2..n];
-    let after = Position(at.0 + 3);
-    let one = alone(value, kind);
-    if one.is {
-        return entry_of_leaf(entry, n, one, tape, slim, at);
+    match value.registry {
+        Registry::Neighbor => alone(value.octets, kind),
+        _ => None,
     }
-    let decoded = neighbor_value(value, kind, inside, tape, slim, after);
-    complete(entry, value, decoded, tape, slim, at)
 }
 
-// Lays an entry of registry 1.
+// Lays an entry.
 #[cycle(nesting)]
-fn prefix_entry(octets: &[u8], base: Octet, tape: &mut [u64], slim: bool, at: Position) -> Position
-    requires { (2 ≤ length octets.now) × AsksFor slim (entry_in 1) octets base tape at }
-    ensures { Lays slim (entry_in 1 octets.now base.0) tape at result }
+fn lay_entry<L: Layout>(octets: Stretch, pen: &mut Pen<'_, L>)
+    requires { (2 ≤ length octets.octets.now) × HasRoom L.SLIM pen.old (size (of entry_in octets)) }
+    ensures { Writes L.SLIM (of entry_in octets.entry) pen.old pen.new }
 {
-    let n = octets.len();
-    let entry = Entry::of(octets, base, Prefix::NUMBER as u8);
-    let kind = entry.kind;
-    let inside = Octet(base.0 + 2);
-    let value = &octets[2..n];
-    let after = Position(at.0 + 3);
-    let decoded = prefix_value(value, kind, inside, tape, slim, after);
-    complete(entry, value, decoded, tape, slim, at)
+    let entry = Entry::of(octets);
+    let value = octets.from(2);
+    if let Some(one) = one_leaf(value, entry.kind) {
+        entry.lay_leaf(one, pen);
+        return;
+    }
+    let at = pen.next;
+    pen.skip(3);
+    let taken = decode(value, entry.kind, pen);
+    entry.complete(taken, at, pen);
 }
 
-// Lays an entry of registry 2.
+// Lays the complete entries of an area, and the `sub_tlvs` array in front of them; nothing where the area is empty.
+// Gives the octets that they cover.
 #[cycle(nesting)]
-fn router_entry(octets: &[u8], base: Octet, tape: &mut [u64], slim: bool, at: Position) -> Position
-    requires { (2 ≤ length octets.now) × AsksFor slim (entry_in 2) octets base tape at }
-    ensures { Lays slim (entry_in 2 octets.now base.0) tape at result }
+pub fn walk<L: Layout>(area: Stretch, pen: &mut Pen<'_, L>) -> usize
+    requires { HasRoom L.SLIM pen.old (size (of (walked usual) area)) }
+    ensures { WritesUpTo L.SLIM (covered (octets_of area.entry)) (of (walked usual) area.entry) pen.old pen.new result }
 {
-    let n = octets.len();
-    let entry = Entry::of(octets, base, RouterCapability::NUMBER as u8);
-    let kind = entry.kind;
-    let inside = Octet(base.0 + 2);
-    let value = &octets[2..n];
-    let after = Position(at.0 + 3);
-    let decoded = router_value(value, kind, inside, tape, slim, after);
-    complete(entry, value, decoded, tape, slim, at)
-}
-
-// Lays the entries of an area of registry 0, and then the `sub_tlvs` array in front of them.
-#[cycle(nesting)]
-fn neighbor_area(area: &[u8], base: Octet, tape: &mut [u64], slim: bool, at: Position) -> Shown
-    requires { (0 < length area.now) × AsksFor slim (walked usual 0) area base tape at }
-    ensures { LaysUpTo slim (covered area.now) (walked usual 0 area.now base.0) tape at result }
-{
+    if area.octets.len() == 0 {
+        return 0;
+    }
+    let at = pen.next;
+    pen.skip(1);
     let mut left = area;
-    let mut place = base;
-    let mut next = Position(at.0 + 1);
-    while 2 <= left.len() {
-        let length = 2 + left[1] as usize;
-        if left.len() < length {
-            break;
-        }
-        next = neighbor_entry(&left[0..length], place, tape, slim, next);
-        left = &left[length..];
-        place = Octet(place.0 + length);
+    while let Some(n) = entry_length(left.octets) {
+        lay_entry(left.first(n), pen);
+        left = left.from(n);
     }
-    let covered = place.0 - base.0;
-    let source = Source {
-        registry: Neighbor::NUMBER as u8,
-        base,
-    };
-    container(
-        source,
-        Label::SUB_TLVS,
-        Shape::ARRAY,
-        covered,
-        tape,
-        slim,
+    let covered = area.octets.len() - left.octets.len();
+    pen.container(
         at,
-        next,
+        area.content(Label::SubTlvs, Shape::Array, 0, covered, 0),
     );
-    Shown { covered, next }
-}
-
-// Lays the entries of an area of registry 1, and then the `sub_tlvs` array in front of them.
-#[cycle(nesting)]
-fn prefix_area(area: &[u8], base: Octet, tape: &mut [u64], slim: bool, at: Position) -> Shown
-    requires { (0 < length area.now) × AsksFor slim (walked usual 1) area base tape at }
-    ensures { LaysUpTo slim (covered area.now) (walked usual 1 area.now base.0) tape at result }
-{
-    let mut left = area;
-    let mut place = base;
-    let mut next = Position(at.0 + 1);
-    while 2 <= left.len() {
-        let length = 2 + left[1] as usize;
-        if left.len() < length {
-            break;
-        }
-        next = prefix_entry(&left[0..length], place, tape, slim, next);
-        left = &left[length..];
-        place = Octet(place.0 + length);
-    }
-    let covered = place.0 - base.0;
-    let source = Source {
-        registry: Prefix::NUMBER as u8,
-        base,
-    };
-    container(
-        source,
-        Label::SUB_TLVS,
-        Shape::ARRAY,
-        covered,
-        tape,
-        slim,
-        at,
-        next,
-    );
-    Shown { covered, next }
-}
-
-// Lays the entries of an area of registry 2, and then the `sub_tlvs` array in front of them.
-#[cycle(nesting)]
-fn router_area(area: &[u8], base: Octet, tape: &mut [u64], slim: bool, at: Position) -> Shown
-    requires { (0 < length area.now) × AsksFor slim (walked usual 2) area base tape at }
-    ensures { LaysUpTo slim (covered area.now) (walked usual 2 area.now base.0) tape at result }
-{
-    let mut left = area;
-    let mut place = base;
-    let mut next = Position(at.0 + 1);
-    while 2 <= left.len() {
-        let length = 2 + left[1] as usize;
-        if left.len() < length {
-            break;
-        }
-        next = router_entry(&left[0..length], place, tape, slim, next);
-        left = &left[length..];
-        place = Octet(place.0 + length);
-    }
-    let covered = place.0 - base.0;
-    let source = Source {
-        registry: RouterCapability::NUMBER as u8,
-        base,
-    };
-    container(
-        source,
-        Label::SUB_TLVS,
-        Shape::ARRAY,
-        covered,
-        tape,
-        slim,
-        at,
-        next,
-    );
-    Shown { covered, next }
-}
-
-// Lays an area that has octets, by its registry.
-#[cycle(nesting)]
-fn area(
-    octets: &[u8],
-    base: Octet,
-    registry: Registry,
-    tape: &mut [u64],
-    slim: bool,
-    at: Position,
-) -> Shown
-    requires { (0 < length octets.now) × AsksFor slim (walked usual (number_of registry)) octets base tape at }
-    ensures { LaysUpTo slim (covered octets.now) (walked usual (number_of registry) octets.now base.0) tape at result }
-{
-    match registry {
-        Registry::Neighbor => neighbor_area(octets, base, tape, slim, at),
-        Registry::Prefix => prefix_area(octets, base, tape, slim, at),
-        Registry::RouterCapability => router_area(octets, base, tape, slim, at),
-        _ => plain_area(octets, base, registry, tape, slim, at),
-    }
-}
-
-// Lays the complete entries of an area, and then the `sub_tlvs` array in front of them; nothing where the area is empty.
-#[cycle(nesting)]
-pub fn walk(
-    area: &[u8],
-    base: Octet,
-    registry: Registry,
-    tape: &mut [u64],
-    slim: bool,
-    at: Position,
-) -> Shown
-    requires { AsksFor slim (walked usual (number_of registry)) area base tape at }
-    ensures { LaysUpTo slim (covered area.now) (walked usual (number_of registry) area.now base.0) tape at result }
-{
-    if area.len() == 0 {
-        return Shown {
-            covered: 0,
-            next: at,
-        };
-    }
-    crate::area(area, base, registry, tape, slim, at)
+    covered
 }
 
 // Lays the walk of an area, and one `raw` record beside it for the octets that it does not cover, if there are any.
+// Gives the octets that the walk covers.
 #[cycle(nesting)]
-pub fn push(
-    area: &[u8],
-    base: Octet,
-    registry: Registry,
-    tape: &mut [u64],
-    slim: bool,
-    at: Position,
-) -> Shown
-    requires { AsksFor slim (pushed usual (number_of registry)) area base tape at }
-    ensures { LaysUpTo slim (covered area.now) (pushed usual (number_of registry) area.now base.0) tape at result }
+pub fn push<L: Layout>(area: Stretch, pen: &mut Pen<'_, L>) -> usize
+    requires { HasRoom L.SLIM pen.old (size (of (pushed usual) area)) }
+    ensures { WritesUpTo L.SLIM (covered (octets_of area.entry)) (of (pushed usual) area.entry) pen.old pen.new result }
 {
-    let shown = walk(area, base, registry, tape, slim, at);
-    let covered = shown.covered;
-    let after = shown.next;
-    let source = Source {
-        registry: registry.number() as u8,
-        base,
-    };
-    let next = raw(area, source, covered, tape, slim, after);
-    Shown { covered, next }
+    let covered = walk(area, pen);
+    raw(area, covered, pen);
+    covered
 }

@@ -1,55 +1,49 @@
 -- Two octets, the system id and the SID, one after the other.
-use Rattle.readings.specs.Plain.{plain_room}
-use mathlib.Core.Path.{refl, ap}
-use native.Mathlib.Omega.{arith}
+use Rattle.std.proofs.Common.{rules, refl, ap, sym, arith, ◌∙◌, Some}
 use Rattle.tape.specs.Forest.{◌⧺◌}
-use Rattle.tape.proofs.LaidLaws.{laid_none, laid_then}
+use Rattle.registry.specs.Registry.{number_of}
+use Rattle.store.specs.PenLaws.{writes_as, writes_then, writes_none}
+use Rattle.meaning.specs.Label
 use Rattle.meaning.specs.Table.{table, fields_of, usual}
 use Rattle.meaning.specs.TableLaws.{least_in, fields_in}
-use Rattle.meaning.specs.Label
-use Rattle.fields.specs.ShowsLaws.{shown_sid}
 use Rattle.meaning.specs.Value.{field_end, field_trees, fields_trees, taken}
+use Rattle.fields.specs.ShowsLaws.{sid_shown, sid_ends}
 use Rattle.readings.specs.Reading.{reading_of}
-use Rattle.readings.specs.ReadingLaws.{row_short, row_long}
-use Rattle.readings.specs.declared.Taken.TheVariants.{Octets}
-use borrow.Author.Rules.{rules}
+use Rattle.neighbor.proofs.Rows.{short, long, room}
 use Rattle.neighbor.proofs.lan_adj_sid.Goals as goal
 
 pub returns-then-value-lt11 : goal.returns-then-value-lt11
 unfolding usual fields_of table least_in fields_in
-returns-then-value-lt11 c = let g = c.args in row_short 0 32 g.source.registry g.value.now g.source.base.0 refl c.if-value-lt11.true
+returns-then-value-lt11 g c = short 32 c.args.value refl c.args.pen.now c.if-value-lt11.true
 
-pub number8-second-requires : goal.number8-second-requires
+pub number-requires : goal.number-requires
 unfolding usual fields_of table least_in fields_in
-number8-second-requires c =
-    let g = c.args in
-    let room = plain_room 0 32 g.source.registry g.value.now g.source.base.0 refl c.if-value-lt11.false (omega arith, tt) c.requires in
+number-requires g c =
+    let left = room 32 c.args.value refl c.args.pen.now c.if-value-lt11.false (omega arith, tt) c.requires in
     search rules
 
-pub number8-third-requires : goal.number8-third-requires
+pub number-requires-2 : goal.number-requires-2
 unfolding usual fields_of table least_in fields_in
-number8-third-requires c =
-    let g = c.args in
-    let room = plain_room 0 32 g.source.registry g.value.now g.source.base.0 refl c.if-value-lt11.false (omega arith, tt) c.requires in
+number-requires-2 g c =
+    let left = room 32 c.args.value refl c.args.pen.now c.if-value-lt11.false (omega arith, tt) c.requires in
     search rules
 
-pub part-fourth-requires : goal.part-fourth-requires
+pub octets-requires : goal.octets-requires
 unfolding usual fields_of table least_in fields_in
-part-fourth-requires c =
-    let g = c.args in
-    let room = plain_room 0 32 g.source.registry g.value.now g.source.base.0 refl c.if-value-lt11.false (omega arith, tt) c.requires in
+octets-requires g c =
+    let left = room 32 c.args.value refl c.args.pen.now c.if-value-lt11.false (omega arith, tt) c.requires in
     search rules
 
-pub sid-shown-requires : goal.sid-shown-requires
+pub sid-requires : goal.sid-requires
 unfolding usual fields_of table least_in fields_in
-sid-shown-requires c =
-    let g = c.args in
-    let room = plain_room 0 32 g.source.registry g.value.now g.source.base.0 refl c.if-value-lt11.false (omega arith, tt) c.requires in
+sid-requires g c =
+    let left = room 32 c.args.value refl c.args.pen.now c.if-value-lt11.false (omega arith, tt) c.requires in
     search rules
 
 pub returns : goal.returns
 unfolding usual fields_of table least_in fields_in reading_of fields_trees field_trees taken field_end ◌⧺◌
-returns c =
-    let g = c.args in
-    let x = shown_sid g.value.now 8 Label.sid g.source.registry g.source.base.0 (omega arith) c.sid-shown.ensures in
-    row_long 0 32 g.source.registry g.value.now g.source.base.0 refl c.if-value-lt11.false (record { taken = ap Octets x.covers; laid = laid_then c.number8-second.ensures (laid_then c.number8-third.ensures (laid_then c.part-fourth.ensures (laid_then x.laid laid_none))) })
+returns g c =
+    let v = c.args.value in
+    let shown = sid_shown v.octets.now 8 Label.sid (number_of v.registry) v.base.0 (omega arith) in
+    let ends = sid_ends v.octets.now 8 (omega arith) in
+    long 32 v refl c.if-value-lt11.false (record { taken = ap Some (c.sid.ensures.covers ∙ sym ends); writes = writes_then c.number.ensures (writes_then c.number-2.ensures (writes_then c.octets.ensures (writes_then (writes_as shown c.sid.ensures.writes) writes_none))) })

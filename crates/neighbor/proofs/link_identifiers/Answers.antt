@@ -1,36 +1,30 @@
 -- Two numbers, one after the other.
-use Rattle.readings.specs.Plain.{plain_room}
-use mathlib.Core.Path.{refl}
+use Rattle.std.proofs.Common.{rules, refl}
 use Rattle.tape.specs.Forest.{◌⧺◌}
-use Rattle.tape.proofs.LaidLaws.{laid_then}
+use Rattle.store.specs.PenLaws.{writes_then, writes_none}
 use Rattle.meaning.specs.Table.{table, fields_of, usual}
 use Rattle.meaning.specs.TableLaws.{least_in, fields_in}
 use Rattle.meaning.specs.Value.{field_end, field_trees, fields_trees, taken}
 use Rattle.readings.specs.Reading.{reading_of}
-use Rattle.readings.specs.ReadingLaws.{row_short, row_long}
-use borrow.Author.Rules.{rules}
+use Rattle.neighbor.proofs.Rows.{short, long, room}
 use Rattle.neighbor.proofs.link_identifiers.Goals as goal
 
 pub returns-then-value-lt8 : goal.returns-then-value-lt8
 unfolding usual fields_of table least_in fields_in
-returns-then-value-lt8 c = let g = c.args in row_short 0 4 g.source.registry g.value.now g.source.base.0 refl c.if-value-lt8.true
+returns-then-value-lt8 g c = short 4 c.args.value refl c.args.pen.now c.if-value-lt8.true
 
-pub number32-second-requires : goal.number32-second-requires
+pub number-requires : goal.number-requires
 unfolding usual fields_of table least_in fields_in
-number32-second-requires c =
-    let g = c.args in
-    let room = plain_room 0 4 g.source.registry g.value.now g.source.base.0 refl c.if-value-lt8.false tt c.requires in
+number-requires g c =
+    let left = room 4 c.args.value refl c.args.pen.now c.if-value-lt8.false tt c.requires in
     search rules
 
-pub number32-next-requires : goal.number32-next-requires
+pub number-requires-2 : goal.number-requires-2
 unfolding usual fields_of table least_in fields_in
-number32-next-requires c =
-    let g = c.args in
-    let room = plain_room 0 4 g.source.registry g.value.now g.source.base.0 refl c.if-value-lt8.false tt c.requires in
+number-requires-2 g c =
+    let left = room 4 c.args.value refl c.args.pen.now c.if-value-lt8.false tt c.requires in
     search rules
 
 pub returns : goal.returns
 unfolding usual fields_of table least_in fields_in reading_of fields_trees field_trees taken field_end ◌⧺◌
-returns c =
-    let g = c.args in
-    row_long 0 4 g.source.registry g.value.now g.source.base.0 refl c.if-value-lt8.false (record { taken = refl; laid = search laid_then })
+returns g c = long 4 c.args.value refl c.if-value-lt8.false (record { taken = refl; writes = writes_then c.number.ensures (writes_then c.number-2.ensures writes_none) })

@@ -1,64 +1,40 @@
-use Prim.Native.Nat.{◌*◌, ◌+◌}
-use lib.ListN.{length}
+-- The measure of each member: the octets left fall; where they do not, the member is nearer to a walk.
+use Rattle.std.proofs.Common.{◌≡◌, ◌+◌, ◌*◌, length}
+use Rattle.registry.specs.Registry.{number_of}
 use Rattle.meaning.specs.Frame.{entry_length}
-use Rattle.fields.specs.Cutting.{CutOff}
+use Rattle.fields.specs.Cutting.{Cutting}
 use Rattle.walk.specs.Entry.{entry_in}
 use Rattle.walk.proofs.+nesting.Given as goal
 
--- The measure of each member: the octets left fall; where they do not, the member is nearer to a walk.
-abbrev pub decreases-area : goal.decreases-area
-decreases-area l = 8 * length l.octets.now + 5
-
-abbrev pub decreases-neighbor_area : goal.decreases-neighbor_area
-decreases-neighbor_area l = 8 * length l.area.now + 4
-
-abbrev pub decreases-prefix_area : goal.decreases-prefix_area
-decreases-prefix_area l = 8 * length l.area.now + 4
-
-abbrev pub decreases-router_area : goal.decreases-router_area
-decreases-router_area l = 8 * length l.area.now + 4
-
-abbrev pub decreases-neighbor_entry : goal.decreases-neighbor_entry
-decreases-neighbor_entry l = 8 * length l.octets.now + 3
-
-abbrev pub decreases-prefix_entry : goal.decreases-prefix_entry
-decreases-prefix_entry l = 8 * length l.octets.now + 3
-
-abbrev pub decreases-router_entry : goal.decreases-router_entry
-decreases-router_entry l = 8 * length l.octets.now + 3
-
-abbrev pub decreases-neighbor_value : goal.decreases-neighbor_value
-decreases-neighbor_value l = 8 * length l.value.now + 2
-
-abbrev pub decreases-prefix_value : goal.decreases-prefix_value
-decreases-prefix_value l = 8 * length l.value.now + 2
-
-abbrev pub decreases-router_value : goal.decreases-router_value
-decreases-router_value l = 8 * length l.value.now + 2
-
 abbrev pub decreases-push : goal.decreases-push
-decreases-push l = 8 * length l.area.now + 7
-
-abbrev pub decreases-tail : goal.decreases-tail
-decreases-tail l = 8 * length l.value.now + 1
+decreases-push g l = 8 * length l.area.octets.now + 6
 
 abbrev pub decreases-walk : goal.decreases-walk
-decreases-walk l = 8 * length l.area.now + 6
+decreases-walk g l = 8 * length l.area.octets.now + 5
 
-abbrev pub invariant-neighbor_area-loop-left : goal.invariant-neighbor_area-loop-left
-invariant-neighbor_area-loop-left l = CutOff l.slim entry_length (entry_in 0) l.base.0 l.area l.initial.tape l.tape (l.at.0 + 1) l.left l.place.0 l.next.0
+abbrev pub decreases-lay_entry : goal.decreases-lay_entry
+decreases-lay_entry g l = 8 * length l.octets.octets.now + 4
 
-abbrev pub decreases-neighbor_area-loop-left : goal.decreases-neighbor_area-loop-left
-decreases-neighbor_area-loop-left l = length l.left
+abbrev pub decreases-decode : goal.decreases-decode
+decreases-decode g l = 8 * length l.value.octets.now + 3
 
-abbrev pub invariant-prefix_area-loop-left : goal.invariant-prefix_area-loop-left
-invariant-prefix_area-loop-left l = CutOff l.slim entry_length (entry_in 1) l.base.0 l.area l.initial.tape l.tape (l.at.0 + 1) l.left l.place.0 l.next.0
+abbrev pub decreases-neighbor_value : goal.decreases-neighbor_value
+decreases-neighbor_value g l = 8 * length l.value.octets.now + 2
 
-abbrev pub decreases-prefix_area-loop-left : goal.decreases-prefix_area-loop-left
-decreases-prefix_area-loop-left l = length l.left
+abbrev pub decreases-prefix_value : goal.decreases-prefix_value
+decreases-prefix_value g l = 8 * length l.value.octets.now + 2
 
-abbrev pub invariant-router_area-loop-left : goal.invariant-router_area-loop-left
-invariant-router_area-loop-left l = CutOff l.slim entry_length (entry_in 2) l.base.0 l.area l.initial.tape l.tape (l.at.0 + 1) l.left l.place.0 l.next.0
+abbrev pub decreases-router_value : goal.decreases-router_value
+decreases-router_value g l = 8 * length l.value.octets.now + 2
 
-abbrev pub decreases-router_area-loop-left : goal.decreases-router_area-loop-left
-decreases-router_area-loop-left l = length l.left
+abbrev pub decreases-tail : goal.decreases-tail
+decreases-tail g l = 8 * length l.value.octets.now + 1
+
+-- The entries that are behind the loop are laid.
+abbrev pub invariant-walk-loop-n : goal.invariant-walk-loop-n
+invariant-walk-loop-n g l =
+    (l.left.registry ≡ l.area.registry)
+    × Cutting g.L.Layout.SLIM entry_length (entry_in (number_of l.area.registry)) l.area.base.0 l.area.octets.now l.initial.pen l.pen l.left.octets.now l.left.base.0
+
+abbrev pub decreases-walk-loop-n : goal.decreases-walk-loop-n
+decreases-walk-loop-n g l = length l.left.octets.now

@@ -1,25 +1,17 @@
--- Too short, or the ranges behind the flags.
-use Prim.Native.Nat.{◌+◌, ◌-◌}
+-- The ranges behind the flags.
 use native.Mathlib.Omega.{arith}
-use lib.ListN.{length, drop, length-take, length-drop}
-use Rattle.meaning.specs.Label
-use Rattle.meaning.specs.Field.{array, from, ranges}
-use Rattle.count.specs.LastCount.{heads_short, heads_long, ranges_last}
+use Rattle.count.specs.LastCount.{heads_long, ranges_last}
 use Rattle.count.proofs.field.flags_and_ranges.Goals as goal
 
-pub returns-then-n-lt1 : goal.returns-then-n-lt1
-returns-then-n-lt1 c = heads_short _ _ _ _ c.if-n-lt1.true
+pub with_rest-requires : goal.with_rest-requires
+with_rest-requires c = omega (arith, c.in-Some.ensures.lookup.0, (c.ranges-2.ensures 0).few)
 
 pub overflow_add-result : goal.overflow_add-result
-overflow_add-result c =
-    let v = c.args.value.now in
-    omega (arith, c.ranges-2.ensures.0, length-take (length v - 1) (drop 1 v))
+overflow_add-result c = omega (arith, c.in-Some.ensures.lookup.0, c.with_rest.ensures.1, (c.ranges-2.ensures 0).few)
 
 pub returns : goal.returns
 returns c =
     let v = c.args.value.now in
-    let r = c.ranges-2.result in
-    let heads = heads_long 1 1 v (array Label.ranges (from 1) ranges) (1 + r) c.if-n-lt1.false
-    (omega (arith, c.ranges-2.ensures.0, length-take (length v - 1) (drop 1 v), length-drop 1 v))
-    (λ registry base. ranges_last registry v base r (omega arith) (c.ranges-2.ensures.1 registry (base + 1))) in
-    record { few = omega (arith, heads.few); records = λ registry base. omega (arith, heads.records registry base) }
+    let part = c.in-Some.ensures.lookup.0 in
+    heads_long part.0 (omega (arith, part, c.with_rest.ensures.1, (c.ranges-2.ensures 0).few))
+    (λ registry base. omega (arith, c.with_rest.ensures.0, ranges_last registry v base part.0 part.2 (c.ranges-2.ensures registry)))

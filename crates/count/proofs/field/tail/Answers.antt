@@ -1,32 +1,21 @@
 -- The SID alone, an overrun, or an inner area.
-use Prim.Native.Nat.{◌+◌, ◌-◌}
 use native.Mathlib.Omega.{arith}
-use lib.ListN.{get_or, drop, length-take}
-use Rattle.count.specs.TailCount.{bare_count, overrun_count, inner_count}
+use Rattle.meaning.specs.Area.{inner_walk}
+use Rattle.count.specs.TailCount.{length_behind, bare_count, overrun_count, inner_count}
 use Rattle.count.proofs.field.tail.Goals as goal
 
-pub returns-then-n-length_at : goal.returns-then-n-length_at
-returns-then-n-length_at c =
-    let g = c.args in
-    (omega arith, λ registry base. bare_count registry g.value.now base g.at (omega arith))
+pub returns-in_default : goal.returns-in_default
+returns-in_default c = (omega arith, bare_count c.args.value.now c.args.at c.requires.0 c.in_default.ensures.cases)
 
-pub overflow_cast-stop : goal.overflow_cast-stop
-overflow_cast-stop c = omega (arith, c.type_inv.value (c.args.at + 16))
-
-pub overflow_add-stop : goal.overflow_add-stop
-overflow_add-stop c = omega (arith, c.type_inv.value (c.args.at + 16))
-
-pub returns-then-n-stop : goal.returns-then-n-stop
-returns-then-n-stop c =
-    let g = c.args in
-    (omega arith, λ registry base. overrun_count registry g.value.now base g.at (omega arith) (omega arith))
+pub returns-in_default-get : goal.returns-in_default-get
+returns-in_default-get c = (omega arith, overrun_count c.args.value.now c.args.at c.requires.0 c.in-Some.ensures.cases.0 (omega (arith, c.in_default-get.ensures.lookup)))
 
 pub returns : goal.returns
+unfolding inner_walk
 returns c =
-    let walk = c.nested_area.ensures in
-    let g = c.args in
-    let v = g.value.now in
-    let start = g.at + 16 + 1 in (
-      omega (arith, c.with_rest.ensures.1, walk.few, length-take (start + get_or v (g.at + 16) 0 - start) (drop start v)),
-      λ registry base. omega (arith, c.with_rest.ensures.0, inner_count registry v base g.at (omega arith) walk),
+    let v = c.args.value.now in
+    let part = c.in-Some-get.ensures.lookup.0 in
+    let walk = c.count_area.ensures in (
+      omega (arith, c.with_rest.ensures.1, walk.few, part, c.in-Some.ensures.cases.1, length_behind v c.args.at c.requires.0),
+      λ registry base. omega (arith, c.with_rest.ensures.0, inner_count v c.args.at c.requires.0 c.in-Some.ensures.cases.0 part.2 part.1 walk registry base),
     )

@@ -1,11 +1,7 @@
+-- After i turns the first i octets are those of `from`.
 use mathlib.Core.Path.{◌≡◌}
-use Prim.Native.Nat.{◌-◌, ◌≤◌}
-use lib.ListN.{length}
 use lib.Seq.{paste}
 use Rattle.octets.proofs.copy.copy_to_front.Given as goal
 
 abbrev pub invariant-loop-i : goal.invariant-loop-i
-invariant-loop-i l = (l.to ≡ paste l.initial.to 0 l.from l.i) × ((l.i ≤ length l.from) × (length l.to ≡ length l.initial.to))
-
-abbrev pub decreases-loop-i : goal.decreases-loop-i
-decreases-loop-i l = length l.from - l.i
+invariant-loop-i l = l.to ≡ paste l.initial.to 0 l.from l.i

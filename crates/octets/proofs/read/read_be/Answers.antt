@@ -1,22 +1,27 @@
--- The width decides which read it is.
-use native.Mathlib.Omega.{arith}
-use Rattle.octets.specs.BigEndianLaws.{width_eight}
+-- An octet more in each turn.
+use Rattle.std.proofs.Common.{refl, arith, ◌+◌}
+use Rattle.octets.specs.BigEndian.{big_endian}
+use Rattle.octets.specs.BigEndianLaws.{width_most, big_endian_more, one_more, one_more_fits}
 use Rattle.octets.proofs.read.read_be.Goals as goal
 
-pub read_be_u64-requires : goal.read_be_u64-requires
-read_be_u64-requires c = let r = c.in_default.in_default-own.rest in omega (arith, width_eight _ c.requires.0 r.0.0.0.1 r.0.0.1 r.0.1 r.1)
+pub loop-i-init : goal.loop-i-init
+unfolding big_endian
+loop-i-init g c = (refl, omega arith)
 
-pub returns-in-1 : goal.returns-in-1
-returns-in-1 c = rw c.in-1.is c.octet.ensures
+pub overflow_mul-number : goal.overflow_mul-number
+overflow_mul-number g c =
+    let few = width_most g.row.WIDTH c.requires.0 in
+    omega (arith, one_more_fits c.loop-i.number c.loop-i.i 0 (omega (arith, few, c.loop-i-test.true)) c.loop-i.invariant.1 (omega arith))
 
-pub returns-in-2 : goal.returns-in-2
-returns-in-2 c = rw c.in-2.is c.read_be_u16.ensures
+pub overflow_add-number-in-loop-i : goal.overflow_add-number-in-loop-i
+overflow_add-number-in-loop-i g c =
+    let few = width_most g.row.WIDTH c.requires.0 in
+    omega (arith, one_more_fits c.loop-i.number c.loop-i.i _ (omega (arith, few, c.loop-i-test.true)) c.loop-i.invariant.1 (c.type_inv.s (c.args.at + c.loop-i.i)).fits)
 
-pub returns-in-3 : goal.returns-in-3
-returns-in-3 c = rw c.in-3.is c.read_be_u24.ensures.0
-
-pub returns-in-4 : goal.returns-in-4
-returns-in-4 c = rw c.in-4.is c.read_be_u32.ensures
-
-pub returns-in_default : goal.returns-in_default
-returns-in_default c = let r = c.in_default.in_default-own.rest in rw (width_eight _ c.requires.0 r.0.0.0.1 r.0.0.1 r.0.1 r.1) c.read_be_u64.ensures
+pub loop-i-preserved : goal.loop-i-preserved
+loop-i-preserved g c =
+    let few = width_most g.row.WIDTH c.requires.0 in
+    let octet = (c.type_inv.s (c.args.at + c.loop-i.i)).fits in (
+      rw (big_endian_more c.args.s.now c.args.at c.loop-i.i, c.loop-i.invariant.0) refl,
+      one_more c.loop-i.number c.loop-i.i _ (omega (arith, few, c.loop-i-test.true)) c.loop-i.invariant.1 octet,
+    )

@@ -1,20 +1,14 @@
--- Each registry's own lookup.
+-- The name that was found fits, or is refused.
+use Rattle.std.proofs.Common.{◌∙◌}
+use Rattle.registry.specs.Names.{name_of, names_of}
+use Rattle.registry.specs.NamesLaws.{found_name}
+use Rattle.registry.proofs.NameCallLaws.{found_longer, found_fits}
 use Rattle.registry.proofs.Registry.name.Goals as goal
 
-pub returns-in-Neighbor : goal.returns-in-Neighbor
-returns-in-Neighbor c = rw c.in-Neighbor.is c.name.ensures
+pub returns-then-out-name : goal.returns-then-out-name
+unfolding name_of
+returns-then-out-name c = found_longer _ (c.as_bytes-name.ensures.value ∙ c.find.ensures ∙ found_name _ _ _ (names_of c.args.self) c.args.t c.names.ensures) c.if-out-name.true
 
-pub returns-in-Prefix : goal.returns-in-Prefix
-returns-in-Prefix c = rw c.in-Prefix.is c.name-in-Prefix.ensures
-
-pub returns-in-RouterCapability : goal.returns-in-RouterCapability
-returns-in-RouterCapability c = rw c.in-RouterCapability.is c.name-in-RouterCapability.ensures
-
-pub returns-in-Binding : goal.returns-in-Binding
-returns-in-Binding c = rw c.in-Binding.is c.name-in-Binding.ensures
-
-pub returns-in-Srv6Sid : goal.returns-in-Srv6Sid
-returns-in-Srv6Sid c = rw c.in-Srv6Sid.is c.name-in-Srv6Sid.ensures
-
-pub returns-in-Unregistered : goal.returns-in-Unregistered
-returns-in-Unregistered c = rw c.in-Unregistered.is c.name-in-Unregistered.ensures
+pub returns : goal.returns
+unfolding name_of
+returns c = found_fits _ (c.as_bytes-name.ensures.value ∙ c.find.ensures ∙ found_name _ _ _ (names_of c.args.self) c.args.t c.names.ensures) c.if-out-name.false c.copy_to_front.ensures

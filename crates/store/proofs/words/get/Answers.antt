@@ -9,6 +9,3 @@ first_word-b-requires c = let g = c.args in omega (arith, c.requires, room_low g
 
 pub read-requires : goal.read-requires
 read-requires c = let g = c.args in omega (arith, c.first_word-b.ensures.0, room_one g.slim (length g.tape.now) g.at.0 c.requires)
-
-pub returns : goal.returns
-returns c = rw (← c.first_word-b.ensures.0) c.read.ensures

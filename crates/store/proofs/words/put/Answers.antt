@@ -2,13 +2,10 @@
 use mathlib.Core.Path.{◌∙◌}
 use native.Mathlib.Omega.{arith}
 use lib.ListN.{length}
-use Rattle.tape.specs.LayoutLaws.{room_low, room_one}
+use Rattle.tape.specs.LayoutLaws.{room_one}
 use Rattle.tape.specs.TapeLaws.{put_inside}
 use Rattle.tape.proofs.LaidLaws.{put_room}
 use Rattle.store.proofs.words.put.Goals as goal
-
-pub first_word-b-requires : goal.first_word-b-requires
-first_word-b-requires c = let g = c.args in omega (arith, c.requires, room_low g.slim (length g.tape.now))
 
 pub write-requires : goal.write-requires
 write-requires c =

@@ -1,6 +1,0 @@
--- The call's outcome, as numbers.
-use Rattle.outcome.specs.CallLaws.{gives_numbers}
-use Rattle.capi.proofs.wakkemosut_cut_back.Goals as goal
-
-pub returns : goal.returns
-returns c = gives_numbers c.numbers.ensures c.cut_back-outcome.ensures

@@ -1,0 +1,9 @@
+-- What is read so far lies in the octets.
+use Rattle.std.proofs.Common.{◌≤◌, ◌-◌, length}
+use Rattle.input.proofs.read_full.Given as goal
+
+abbrev pub invariant-loop-done : goal.invariant-loop-done
+invariant-loop-done g l = l.done ≤ length l.octets
+
+abbrev pub decreases-loop-done : goal.decreases-loop-done
+decreases-loop-done g l = length l.octets - l.done
