@@ -1,11 +1,14 @@
-//! Labels and shapes: the constants of the proved library and the numbers of the definitions
-//! against the Rust and document 01.
+//! Labels and shapes: the cases of the proved library's enums, their numbers by its contracts and the
+//! numbers of the definitions against the Rust and document 01.
 
 /// The labels of the proved library.
 const LABELS: &str = include_str!("../../crates/tape/src/label.rt");
 
 /// The shapes of the proved library.
 const SHAPES: &str = include_str!("../../crates/tape/src/shape.rt");
+
+/// The numbers of both, as their contracts have them.
+const CODES: &str = include_str!("../../crates/tape/specs/Code.antt");
 
 /// The labels of the definitions.
 const LABEL_DEFINITIONS: &str = include_str!("../../crates/meaning/specs/Label.antt");
@@ -60,21 +63,32 @@ fn constant(line: &str, before: &str) -> (String, u64) {
     (name.into(), number.parse().expect(line))
 }
 
-/// The constants of a type of the proved library, in the order of its text.
-fn constants(text: &str, of: &str) -> Vec<(String, u64)> {
-    let body = between(text, &format!("\nimpl {of} {{\n"), "\n}\n");
-    let lines = body.lines().filter(|line| line.contains("const "));
-    lines.map(|line| constant(line, "    pub const ")).collect()
+/// The cases of an enum of the proved library, in the order of its text.
+fn cases<'a>(text: &'a str, of: &str) -> Vec<&'a str> {
+    let body = between(text, &format!("\npub enum {of} {{\n"), "\n}\n");
+    let cases = body.lines().map(|line| line.trim().strip_suffix(','));
+    cases.map(|case| case.expect(of)).collect()
 }
 
-/// The names and the numbers of the lines such as `function name = 1`, in the order of the text.
+/// The names and the numbers of the lines such as `function name = 1`, in the order of the text; a name that
+/// is a word of the language stands between marks.
 fn equations(text: &str, function: &str) -> Vec<(String, u64)> {
     let before = format!("{function} ");
     let lines = text.lines().filter_map(|line| line.strip_prefix(&before));
     let equations = lines.map(|line| line.split_once(" = ").expect(line));
     equations
-        .map(|(name, number)| (name.into(), number.parse().expect(number)))
+        .map(|(name, number)| {
+            let name = name.trim_matches(['«', '»']);
+            (name.into(), number.parse().expect(number))
+        })
         .collect()
+}
+
+/// A name such as `TE_ROUTER_ID` as the proved library writes it, `TeRouterId`.
+fn camel_case(name: &str) -> String {
+    let words = name.split('_');
+    let words = words.map(|word| word[..1].to_string() + &word[1..].to_lowercase());
+    words.collect()
 }
 
 /// A name such as `TE_ROUTER_ID` as the definitions write it, `te_router_id`.
@@ -95,9 +109,10 @@ fn label_names() -> Vec<String> {
 
 #[test]
 fn the_labels_are_those_of_the_rust_and_of_document_01() {
-    let expected = numbered(label_names());
+    let expected = numbered(label_names().iter().map(|name| camel_case(name)));
     assert_eq!(expected.len(), 57);
-    assert_eq!(constants(LABELS, "Label"), expected);
+    assert_eq!(numbered(cases(LABELS, "Label")), expected);
+    assert_eq!(equations(CODES, "label_code"), expected);
 }
 
 #[test]
@@ -109,7 +124,9 @@ fn the_labels_of_the_definitions_are_those_of_the_rust_and_of_document_01() {
 
 #[test]
 fn the_shapes_are_those_of_document_01() {
-    assert_eq!(constants(SHAPES, "Shape"), numbered(SHAPE_NAMES));
+    let expected = numbered(SHAPE_NAMES.map(camel_case));
+    assert_eq!(numbered(cases(SHAPES, "Shape")), expected);
+    assert_eq!(equations(CODES, "shape_code"), expected);
 }
 
 #[test]
@@ -124,6 +141,12 @@ fn the_shapes_of_the_definitions_are_those_of_document_01() {
 fn names_of_the_definitions_are_in_snake_case() {
     assert_eq!(snake_case("TYPE"), "type");
     assert_eq!(snake_case("IPV4_TE_ROUTER_ID"), "ipv4_te_router_id");
+}
+
+#[test]
+fn names_of_the_library_are_in_camel_case() {
+    assert_eq!(camel_case("TYPE"), "Type");
+    assert_eq!(camel_case("IPV4_TE_ROUTER_ID"), "Ipv4TeRouterId");
 }
 
 #[test]

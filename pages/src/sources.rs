@@ -1,4 +1,4 @@
-//! What the sources of the crates declare: modules, types, constants, and functions with their
+//! What the sources of the crates declare: modules, types, traits, constants, and functions with their
 //! contracts.
 
 use std::ops::Range;
@@ -6,17 +6,17 @@ use std::ops::Range;
 use crate::tree::Tree;
 
 /// The words that declare a name.
-const KEYWORDS: [&str; 4] = ["fn", "struct", "enum", "const"];
+const KEYWORDS: [&str; 6] = ["fn", "struct", "enum", "trait", "type", "const"];
 
-/// A module, a type, a constant or a function.
+/// A module, a type, a trait, a constant or a function.
 pub struct Declaration {
     /// The path of its source.
     pub file: String,
     /// Crate, module, type and name, such as `tape::Record::label`.
     pub path: String,
-    /// The words before its name.
+    /// The words before its name; of what a public trait has, `pub` before these.
     keywords: String,
-    /// Of a function, the lines up to the opening of its body.
+    /// Of a function, the lines up to the opening of its body, or to its end where it has none.
     pub lines: Range<usize>,
     /// What these lines say, without comments.
     pub header: String,
@@ -28,7 +28,7 @@ impl Declaration {
         self.path.rsplit("::").next().unwrap_or(&self.path)
     }
 
-    /// Whether it is a `pub fn`.
+    /// Whether it is a `pub fn`, or a function of a `pub trait`.
     pub fn is_public_function(&self) -> bool {
         self.keywords.starts_with("pub") && self.keywords.ends_with("fn")
     }
@@ -76,30 +76,61 @@ fn declared_in(file: &str, text: &str) -> Vec<Declaration> {
     let module = file.replace("crates/", "").replace("/src/", "::");
     let module = module.replace(".rt", "").replace('/', "::");
     let module = module.trim_end_matches("::lib").trim_end_matches("::main");
-    let lines: Vec<_> = text.lines().map(code).collect();
+    let lines: Vec<_> = text.lines().collect();
     let declare = |path, keywords, lines_of_header: Range<usize>| Declaration {
         file: file.into(),
         path,
         keywords,
-        header: lines[lines_of_header.clone()].join("\n"),
+        header: lines[lines_of_header.clone()]
+            .iter()
+            .map(|line| code(line))
+            .collect::<Vec<_>>()
+            .join("\n"),
         lines: lines_of_header,
     };
     let mut declared = vec![declare(module.into(), "mod".into(), 0..0)];
     let mut place = module.to_string();
-    for (at, line) in lines.iter().enumerate() {
-        if let Some(owner) = line.strip_prefix("impl ") {
-            place = format!("{module}::{}", owner.trim_end_matches(" {"));
-        } else if *line == "}" {
-            place = module.into();
-        } else if let Some((keywords, name)) = declaration(line) {
+    let mut before = "";
+    for (at, line) in lines.iter().map(|line| code(line)).enumerate() {
+        if line == "}" {
+            (place, before) = (module.into(), "");
+        }
+        if let Some((keywords, name)) = declaration(line) {
+            let path = format!("{place}::{name}");
             declared.push(declare(
-                format!("{place}::{name}"),
-                keywords,
-                at..body(&lines, at),
+                path,
+                before.to_string() + &keywords,
+                at..header(&lines, at),
             ));
+        }
+        if let Some((keywords, owner)) = owner(line) {
+            place = format!("{module}::{owner}");
+            before = if keywords == "pub trait" { "pub " } else { "" };
         }
     }
     declared
+}
+
+/// Whose functions the lines behind this one have: the words before it, and the type of an `impl` or the trait.
+fn owner(line: &str) -> Option<(&str, &str)> {
+    let keywords = ["impl", "trait", "pub trait"].into_iter();
+    let behind = |keyword| Some((keyword, line.strip_prefix(keyword)?));
+    let (keywords, rest) = keywords.filter_map(behind).next()?;
+    let rest = without_brackets(rest).trim_start();
+    let owner = rest.split_once(" for ").map_or(rest, |(_, owner)| owner);
+    let name = owner.split(|c| !is_in_names(c)).next()?;
+    (line.ends_with('{') && !name.is_empty()).then_some((keywords, name))
+}
+
+/// What stands behind the brackets that a text begins with, such as `<'a, L: Layout>`.
+fn without_brackets(text: &str) -> &str {
+    let mut open = 0;
+    let end = text.find(|c| {
+        open += usize::from(c == '<');
+        open -= usize::from(c == '>' && open > 0);
+        open == 0
+    });
+    text[end.unwrap_or(0)..].trim_start_matches('>')
 }
 
 /// A line without its comment.
@@ -112,15 +143,18 @@ fn declaration(line: &str) -> Option<(String, &str)> {
     let words: Vec<_> = line.split_whitespace().collect();
     let place = |keyword| words.iter().position(|word| word == keyword);
     let at = KEYWORDS.iter().find_map(place)?;
-    let is_first = at == 0 || words[0].starts_with("pub") || words[0] == "extern";
+    let may_be_first = |word: &str| word.starts_with("pub") || ["extern", "final"].contains(&word);
+    let is_first = at == 0 || may_be_first(words[0]);
     let name = words.get(at + 1)?.split(|c| !is_in_names(c)).next()?;
     is_first.then(|| (words[..=at].join(" "), name))
 }
 
-/// The line after the one that opens the body of the function at a line: both are indented alike.
-fn body(lines: &[&str], at: usize) -> usize {
+/// The line after the one that opens the body of the function at a line, both indented alike, or that ends what has no
+/// body; the header of none goes past a blank line.
+fn header(lines: &[&str], at: usize) -> usize {
     let indent = |line: &str| line.len() - line.trim_start().len();
-    let opens = |line: &&str| line.ends_with('{') && indent(line) == indent(lines[at]);
-    let length = lines[at..].iter().position(opens);
+    let opens = |line: &str| line.ends_with('{') && indent(line) == indent(lines[at]);
+    let ends = |line: &&str| line.is_empty() || opens(code(line)) || code(line).ends_with(';');
+    let length = lines[at..].iter().position(ends);
     length.map_or(lines.len(), |length| at + length + 1)
 }
