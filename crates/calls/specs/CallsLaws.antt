@@ -4,7 +4,8 @@ use Rattle.std.specs.List.{list_all, range_with_len}
 use Rattle.tape.specs.Layout.{width}
 use Rattle.std.proofs.Math.Path.{refl, ap}
 use Rattle.std.proofs.Common.{sym, ◌∙◌, subst, inl, inr, true≢false}
-use Prim.Native.Nat.{ℕ, zero, suc, ◌≤◌, ◌<◌, ◌+◌}
+use Prim.Native.Nat.{ℕ, zero, suc, ◌≤◌, ◌<◌, ◌+◌, ◌-◌}
+use Rattle.std.proofs.Math.Bool.{and_comm}
 use Rattle.std.proofs.Math.Numerals.{add-one}
 use Rattle.std.proofs.Math.Decide.{dec_le}
 use native.Mathlib.Omega.{arith}
@@ -73,6 +74,26 @@ pub end_by_each : (slim : Bool) (t : List ℕ) (mark at n : ℕ) → list_all (�
 unfolding end_by load
 end_by_each slim t mark at zero = refl
 end_by_each slim t mark at (suc n) = ap (λ (b : Bool). leb (record_at slim t at).past.0 mark && b) (rw add-one (end_by_each slim t mark (suc at) n))
+
+-- one number more
+all_more : (test : ℕ → Bool) (at n last : ℕ) → at + n ≡ last → list_all test (range_with_len at (suc n)) ≡ (list_all test (range_with_len at n) && test last)
+all_more test at zero last is = and_comm (test at) true ∙ ap test (let same : at ≡ last = omega (arith, is) in same)
+all_more test at (suc n) last is =
+    ap (λ (b : Bool). test at && b) (all_more test (at + 1) n last (omega (arith, is)))
+    ∙ sym (and_assoc (test at) (list_all test (range_with_len (at + 1) n)) (test last))
+
+-- a test of each number, and one of the number before it
+all_from : (f g : ℕ → Bool) → ((k : ℕ) → f (k + 1) ≡ g k) → (at n : ℕ) → list_all f (range_with_len (at + 1) n) ≡ list_all g (range_with_len at n)
+all_from f g same at zero = refl
+all_from f g same at (suc n) = cc (same at, all_from f g same (at + 1) n)
+
+-- the numbers below n, from the last one on or from the first one on
+pub from_the_last : (test : ℕ → Bool) (n : ℕ) → list_all (λ k. test (n - 1 - k)) (range_with_len 0 n) ≡ list_all test (range_with_len 0 n)
+from_the_last test zero = refl
+from_the_last test (suc n) =
+    let others = all_from (λ k. test (suc n - 1 - k)) (λ k. test (n - 1 - k)) (λ k. ap test (omega arith)) 0 n ∙ from_the_last test n in
+    ap (λ (b : Bool). b && list_all (λ k. test (suc n - 1 - k)) (range_with_len 1 n)) (ap test (omega arith))
+    ∙ ap (λ (b : Bool). test n && b) others ∙ and_comm (test n) (list_all test (range_with_len 0 n)) ∙ sym (all_more test 0 n n (omega arith))
 
 -- records one after the other
 end_by-++ : (mark : ℕ) (xs ys : List Record) → end_by mark (xs ++ ys) ≡ (end_by mark xs && end_by mark ys)

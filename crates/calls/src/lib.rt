@@ -21,11 +21,11 @@ pub mod nest;
 pub fn clear(tape: &mut [u64], slim: bool) -> Outcome
     ensures { Gives (clear_call slim tape.old) (told result) tape.new }
 {
-    if tape.len() < 4 {
-        return Err(Refusal::NoTape);
-    }
     let words = width(slim) as u64;
-    tape[..4].copy_from_slice(&[0, 4, words, 0]);
+    let Some(header) = tape.first_chunk_mut::<4>() else {
+        return Err(Refusal::NoTape);
+    };
+    *header = [0, 4, words, 0];
     Ok(Done::NOTHING)
 }
 
@@ -44,7 +44,8 @@ fn end_by(tape: &[u64], slim: bool, mark: Position) -> bool
     requires { mark.0 ≤ room slim tape.now }
     ensures { result ≡ list_all (λ i. leb (record_at slim tape.now i).past.0 mark.0) (range_with_len 0 mark.0) }
 {
-    (0..mark.0).all(|at| get(tape, slim, Position(at)).past.0 <= mark.0)
+    // From the last one on: a mark inside what was laid last is told by a few records, however many stand before.
+    (0..mark.0).all(|k| get(tape, slim, Position(mark.0 - 1 - k)).past.0 <= mark.0)
 }
 
 // The call `cut back`: lowers the count of used records to `mark`.

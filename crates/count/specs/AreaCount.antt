@@ -29,13 +29,17 @@ entry_found xs {w} is =
     let here = complete_is (entry_length xs) is in
     (here.0, omega (arith, here, entry_two xs here.1), omega (arith, here, entry_fits xs))
 
+-- its value is all but its first two octets
+pub length_value : (xs : List ℕ) (w : ℕ) → w ≤ length xs → 2 ≤ w → length (take (w - 2) (drop 2 xs)) ≡ w - 2
+length_value xs w fits two = length-take-le (w - 2) (drop 2 xs) (omega (arith, length-drop 2 xs))
+
 -- it becomes its object, type and length, and what its value becomes
 pub entry_counts : (xs : List ℕ) {walk : Walk} {registry w k : ℕ} → Some w ≡ complete (entry_length xs) → CountsBy walk registry (get_or xs 0 0) (take (w - 2) (drop 2 xs)) k
     → (3 + k ≤ 4 * w) × ((at : ℕ) → size (entry_trees usual walk registry (take w xs) at) ≡ 3 + k)
 unfolding entry_trees ◌⧺◌
 entry_counts xs {w = w} {k = k} is value =
     let found = entry_found xs is in
-    let few : 3 + k ≤ 4 * w = omega (arith, found, value.few, length-take-le (w - 2) (drop 2 xs) (omega (arith, found, length-drop 2 xs))) in
+    let few : 3 + k ≤ 4 * w = omega (arith, found, value.few, length_value xs w found.2 found.1) in
     let sum : w ≡ 2 + (w - 2) = omega (arith, found) in
     let behind : drop 2 (take w xs) ≡ take (w - 2) (drop 2 xs) = ap (λ (n : ℕ). drop 2 (take n xs)) sum ∙ drop-take 2 (w - 2) xs in
     let kind : get_or (take w xs) 0 0 ≡ get_or xs 0 0 = get_or-take w xs 0 0 (omega (arith, found)) in

@@ -1,7 +1,8 @@
 -- The records of a last field that goes by its octets.
-use Rattle.std.specs.Prelude.{◌≡◌, List, ℕ, ◌+◌, ◌*◌, ◌-◌, ◌≤◌, Some, length, take, drop}
-use Rattle.std.proofs.Math.Path.{ap}
+use Rattle.std.specs.Prelude.{◌≡◌, List, ℕ, ◌+◌, ◌*◌, ◌-◌, ◌≤◌, ◌<◌, Some, length, take, drop}
+use Rattle.std.proofs.Math.Path.{refl, ap}
 use Rattle.std.proofs.Common.{◌∙◌, arith, le-leb, length-take-le}
+use borrow.Author.Tests.{lt-leb}
 use Rattle.tape.specs.Forest.{size}
 use Rattle.meaning.specs.Label
 use Rattle.meaning.specs.Cut.{pieces, total}
@@ -32,6 +33,10 @@ pub range_counts : (xs : List ℕ) {w : ℕ} → Some w ≡ complete (range_leng
 range_counts xs {w} is registry at =
     let found = range_found xs is in
     range_size registry (take w xs) at (omega (arith, found, length-take-le w xs found.1))
+
+-- a value too short for it
+pub heads_short : {least head : ℕ} {v : List ℕ} {f : Field} → length v < least → Heads least head v f 1
+heads_short {least} {v = v} short = record { few = omega arith; records = λ registry base. rw (lt-leb least (length v) short) refl }
 
 -- a value long enough for it
 pub heads_long : {least head r : ℕ} {v : List ℕ} {f : Field} → least ≤ length v → r ≤ 5 + 4 * length v → ((registry base : ℕ) → r ≡ head + last_records registry v base f)

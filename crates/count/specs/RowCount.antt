@@ -36,10 +36,14 @@ unfolding value_trees
 size_under walk registry v base fs true = refl
 size_under walk registry v base fs false = refl
 
+-- a type that no row reads
+pub unknown_counts : (walk : Walk) (registry kind : ℕ) (v : List ℕ) → usual registry kind v ≡ [] → CountsBy walk registry kind v 1
+unfolding value_trees
+unknown_counts walk registry kind v none_read = record { few = omega arith; records = λ base. rw none_read refl }
+
 -- a type that the table does not list is one record
 pub unread_counts : {walk : Walk} {registry kind : ℕ} {v : List ℕ} → NoneOf kind (types_of registry table) → CountsBy walk registry kind v 1
-unfolding value_trees
-unread_counts {registry = registry} {kind = kind} {v = v} unread = record { few = omega arith; records = λ base. rw (usual_unknown registry kind v unread) refl }
+unread_counts {walk} {registry} {kind} {v} unread = unknown_counts walk registry kind v (usual_unknown registry kind v unread)
 
 -- the first of plain fields
 first_plain : (v : List ℕ) (f : Field) (fs : List Field) → Plain v (f ∷ fs) → Plain v (f ∷ [])

@@ -1,5 +1,5 @@
 // Values of registry 0 that are one leaf over all their octets.
-ghost use Rattle.std.specs.Prelude.{◌≡◌, true};
+ghost use Rattle.std.specs.Prelude.{◌≡◌, ◌≢◌, true, None, length};
 ghost use Rattle.octets.specs.BigEndian.{big_endian, is_width};
 ghost use Rattle.tape.specs.Code.{label_code, shape_code};
 ghost use Rattle.neighbor.specs.Alone.{IsAlone, Told};
@@ -33,7 +33,8 @@ fn number_alone<const WIDTH: usize>(value: &[u8], label: Label) -> Option<OneLea
 
 // An address of `width` octets, where the value has just these.
 fn address_alone(value: &[u8], label: Label, shape: Shape, width: usize) -> Option<OneLeaf>
-    ensures { Told width (label_code label) (shape_code shape) 0 value.now result }
+    ensures told { Told width (label_code label) (shape_code shape) 0 value.now result }
+    ensures there { length value.now ≡ width → result ≢ None }
 {
     if value.len() != width {
         return None;

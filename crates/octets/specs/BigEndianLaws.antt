@@ -1,6 +1,6 @@
 -- Laws of big-endian numbers, over the width.
 use Rattle.std.specs.Prelude.{◌≡◌, refl, true, ℕ, zero, suc, ◌+◌, ◌*◌, ◌^◌, ◌<◌, ◌≤◌, List, get_or, take, drop}
-use Rattle.std.proofs.Common.{sym, ◌∙◌, true≢false, add-zero, zero-add, add-one, add-suc, add_assoc, pow-suc, pow-add, mul-one, arith, get_or-take, get_or-drop, ne_eqb}
+use Rattle.std.proofs.Common.{sym, ◌∙◌, true≢false, add-zero, zero-add, add-one, add-suc, add_assoc, pow-suc, pow-add, mul-one, arith, get_or-take, get_or-drop, ne_eqb, eqb-true}
 use Rattle.std.proofs.Math.Decide.{dec_le}
 use Rattle.std.proofs.Math.Nat.{pow-le-pow_right}
 use Rattle.octets.specs.BigEndian.{big_endian, is_width}
@@ -36,6 +36,10 @@ pub width_some : (width : ℕ) → is_width width ≡ true → 1 ≤ width
 width_some zero is = absurd (true≢false (sym is))
 width_some (suc width) is = omega arith
 
+-- the widest of the widths
+pub width_eight : (width : ℕ) → is_width width ≡ true → (width ≡ 1 → ⊥) → (width ≡ 2 → ⊥) → (width ≡ 3 → ⊥) → (width ≡ 4 → ⊥) → width ≡ 8
+width_eight width is n1 n2 n3 n4 = eqb-true width 8 (rw (ne_eqb width 1 n1, ne_eqb width 2 n2, ne_eqb width 3 n3, ne_eqb width 4 n4) at is)
+
 -- the widest has 8
 pub width_most : (width : ℕ) → is_width width ≡ true → width ≤ 8
 width_most width is = go (dec_le width 8)
@@ -44,12 +48,16 @@ width_most width is = go (dec_le width 8)
     go (yes few) = few
     go (no many) =
         let other : (n : ℕ) → n ≤ 8 → width ≡ n → ⊥ = λ n few same. omega (arith, many, few, same) in
-        absurd (true≢false (sym is ∙ rw (ne_eqb width 1 (other 1 (omega arith)), ne_eqb width 2 (other 2 (omega arith)), ne_eqb width 3 (other 3 (omega arith)), ne_eqb width 4 (other 4 (omega arith)), ne_eqb width 8 (other 8 (omega arith))) refl))
+        absurd (other 8 (omega arith) (width_eight width is (other 1 (omega arith)) (other 2 (omega arith)) (other 3 (omega arith)) (other 4 (omega arith))))
 
 -- a number and an octet behind it make the wider number
 pub big_endian_more : (s : List ℕ) (at i : ℕ) → big_endian s at (i + 1) ≡ big_endian s at i * 256 + get_or s (at + i) 0
 unfolding big_endian
 big_endian_more s at i = rw add-one refl
+
+-- .. wherever the place of that octet comes from
+pub octet_more : (s : List ℕ) (at i place : ℕ) {number : ℕ} → place ≡ at + i → number ≡ big_endian s at i → number * 256 + get_or s place 0 ≡ big_endian s at (i + 1)
+octet_more s at i place there so_far = rw (there, so_far) (sym (big_endian_more s at i))
 
 -- a number of 7 octets or fewer, and an octet behind it
 pub one_more : (n i x : ℕ) → i < 8 → n < 256 ^ i → x < 2 ^ 8 → n * 256 + x < 256 ^ (i + 1)

@@ -33,6 +33,10 @@ zero_more xs now i inside so_far =
     let same : length zeros ≡ length xs = length-replicate (length xs) 0 in
     rw so_far (subst (λ (x : ℕ). set (paste xs 0 zeros i) i x ≡ paste xs 0 zeros (i + 1)) (get_or-replicate (length xs) i 0 0 inside) (copy_more xs zeros i inside (omega arith)))
 
+-- .. wherever its place comes from
+pub zero_place : (xs now : List ℕ) (i : ℕ) {place : ℕ} → place ≡ i → i < length xs → now ≡ paste xs 0 (replicate (length xs) 0) i → set now place 0 ≡ paste xs 0 (replicate (length xs) 0) (i + 1)
+zero_place xs now i there inside so_far = rw there (zero_more xs now i inside so_far)
+
 -- .. and after the last one
 pub zeroed : (xs : List ℕ) (i : ℕ) → i ≡ length xs → paste xs 0 (replicate (length xs) 0) i ≡ replicate (length xs) 0
 zeroed xs i all =

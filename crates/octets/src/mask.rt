@@ -16,7 +16,9 @@ fn cut(x: u8, bits: usize) -> u8
 fn zero(octets: &mut [u8])
     ensures { octets.new ≡ replicate (length octets.old) 0 }
 {
-    octets.fill(0);
+    for i in 0..octets.len() {
+        octets[i] = 0;
+    }
 }
 
 // Clears the bits of `prefix` after the first `bits` bits: whole octets are kept, one octet is cut, the rest become 0.

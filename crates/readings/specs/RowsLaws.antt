@@ -57,6 +57,10 @@ bandwidth_types kind v from below = go (dec_le kind 37) (dec_le kind 38)
     go (no a) (yes b) = is 38 (omega arith) refl
     go (no a) (no b) = is 39 (omega arith) refl
 
+-- what is left of a neighbor's types after the types 31 to 36
+pub past_36 : (n : ℕ) → 31 ≤ n → (n ≡ 31 → ⊥) → (n ≡ 32 → ⊥) → (n ≡ 33 → ⊥) → (n ≡ 34 → ⊥) → (n ≡ 35 → ⊥) → (n ≡ 36 → ⊥) → 37 ≤ n
+past_36 n from not31 not32 not33 not34 not35 not36 = omega arith
+
 -- the types 2 and 22 share one reading
 pub ranges_types : (kind : ℕ) (v : List ℕ) → (kind ≡ 2) ⊎ (kind ≡ 22) → usual 2 kind v ≡ usual 2 2 v
 unfolding usual fields_of table

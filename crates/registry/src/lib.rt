@@ -8,9 +8,7 @@ ghost use Rattle.registry.specs.Registry.{number_of, is_nested, registry_of, kno
 ghost use Rattle.registry.specs.Names.{names_of, name_of, in_octets};
 ghost use Rattle.registry.specs.NameCall.{named, name_call};
 
-use lookup::find;
-use octets::copy::copy_to_front;
-use outcome::{Done, Outcome, Refusal};
+use outcome::{Outcome, Refusal};
 use registries::{
     Binding, Neighbor, Prefix, RegistryType, RouterCapability, Srv6Sid, Unregistered,
 };
@@ -66,19 +64,18 @@ impl Registry {
     }
 
     // Writes the name of type `t` in this registry to the front of `out`, or refuses where it does not fit.
+    // By its type, so that the table is a constant where it is searched, and the back end makes a jump of the search.
     pub fn name(self, t: u64, out: &mut [u8]) -> Outcome
         ensures { Gives (named (name_of self t) out.old) (told result) out.new }
     {
-        let name = find(self.names(), t).as_bytes();
-        if out.len() < name.len() {
-            return Err(Refusal::NameTooLong);
+        match self {
+            Registry::Neighbor => Neighbor::name(t, out),
+            Registry::Prefix => Prefix::name(t, out),
+            Registry::RouterCapability => RouterCapability::name(t, out),
+            Registry::Binding => Binding::name(t, out),
+            Registry::Srv6Sid => Srv6Sid::name(t, out),
+            Registry::Unregistered => Unregistered::name(t, out),
         }
-        copy_to_front(name, out);
-        Ok(Done {
-            covered: 0,
-            written: name.len(),
-            needed: 0,
-        })
     }
 }
 

@@ -14,7 +14,9 @@ ghost use Rattle.registry.specs.declared.Registry.TheVariants.{
 };
 
 use crate::Registry;
-use outcome::Outcome;
+use crate::lookup::find;
+use octets::copy::copy_to_front;
+use outcome::{Done, Outcome, Refusal};
 
 // What a registry has of its own, as a type.
 pub trait RegistryType {
@@ -32,11 +34,20 @@ pub trait RegistryType {
     // Its names, each behind its type.
     const NAMES: &'static [(u64, &'static str)];
 
-    // Writes the name of type `t` to the front of `out`.
+    // Writes the name of type `t` to the front of `out`, or refuses where it does not fit.
     final fn name(t: u64, out: &mut [u8]) -> Outcome
         ensures { Gives (named (name_of REGISTRY t) out.old) (told result) out.new }
     {
-        Self::REGISTRY.name(t, out)
+        let name = find(Self::REGISTRY.names(), t).as_bytes();
+        if out.len() < name.len() {
+            return Err(Refusal::NameTooLong);
+        }
+        copy_to_front(name, out);
+        Ok(Done {
+            covered: 0,
+            written: name.len(),
+            needed: 0,
+        })
     }
 }
 

@@ -65,7 +65,7 @@ module _ (slim : Bool) (shows : Walk) (n : ℕ) (area : List ℕ) (base : ℕ) (
 
     module _ {left : ℕ} (passes : Passes slim area base t left) where
       -- the header
-      in_order : InOrder slim t
+      pub in_order : InOrder slim t
       in_order = headed_in_order t passes.good
 
       -- the room that the call has

@@ -65,7 +65,7 @@ impl Content {
 }
 
 impl Record {
-    // Six zeros: what a refused read gives. No `Default`: document 01 says them so.
+    // Six zeros: what a refused read gives over C. No `Default`: document 01 says them so.
     pub fn zeros() -> Record
         ensures { result ≡ zeros }
     {

@@ -9,6 +9,8 @@ use Rattle.meaning.specs.Field.{tail}
 use Rattle.meaning.specs.Table.{usual}
 use Rattle.meaning.specs.Value.{field_trees, value_trees}
 use Rattle.meaning.specs.Area.{walked, entry_trees}
+use Rattle.registry.specs.Registry.{number_of}
+use Rattle.registry.specs.declared.Registry.{Registry}
 use Rattle.fields.specs.Stretches.{of}
 use Rattle.fields.specs.declared.stretch.Stretch.{Stretch}
 use Rattle.readings.specs.Reading.{Reading, reading, Reads}
@@ -17,6 +19,10 @@ use Rattle.neighbor.specs.declared.alone.OneLeaf.{OneLeaf}
 -- an entry in registry k, whose first octet stands at base
 abbrev pub entry_in : ℕ → List ℕ → ℕ → Forest
 entry_in k = entry_trees usual (walked usual) k
+
+-- the same, wherever the registry is taken from
+abbrev pub entry_of : Registry → ℕ → List ℕ → ℕ → Forest
+entry_of registry k = entry_in (number_of registry)
 
 -- a value of a type, as its registry reads it
 abbrev pub reading_as : ℕ → ℕ → List ℕ → ℕ → Reading

@@ -30,6 +30,12 @@ pub leaf_told : {r k kind n : ℕ} {w v : List ℕ} (l s m base : ℕ) → r ≡
     → value_trees (walked usual) k v base (usual k n v) ≡ leaf (content l s k base (base + length v) m) none
 leaf_told l s m base a b c told = rw (a, b, c) at told
 
+-- octets are a type, a length and a value
+pub entry_octets : (e : List ℕ) → 2 ≤ length e → get_or e 0 0 ∷ get_or e 1 0 ∷ drop 2 e ≡ e
+entry_octets [] two = absurd (omega arith)
+entry_octets (x ∷ []) two = absurd (omega arith)
+entry_octets (x ∷ y ∷ e) two = refl
+
 -- an entry e in registry k, whose first octet stands at base
 module _ (k : ℕ) (e : List ℕ) (base : ℕ) where
   -- its value ..

@@ -4,3 +4,4 @@ pub mod Entry
 pub mod EntryLaws
 pub mod NestedLaws
 pub mod WalkLaws
+pub mod PlainLaws

@@ -1,5 +1,5 @@
 -- A walk and a push, out of their parts.
-use Rattle.std.specs.Prelude.{◌≡◌, refl, Bool, List, [], ◌∷◌, ℕ, ◌+◌, ◌-◌, ◌≤◌, ◌<◌, Some, None, length, take, drop}
+use Rattle.std.specs.Prelude.{◌≡◌, refl, Bool, List, [], ◌∷◌, ℕ, ◌+◌, ◌-◌, ◌^◌, ◌≤◌, ◌<◌, Some, None, length, take, drop}
 use Rattle.std.proofs.Common.{ap, sym, ◌∙◌, arith, length-take-le}
 use Rattle.tape.specs.Record.{container_record}
 use Rattle.tape.specs.Forest.{Forest, size}
@@ -20,12 +20,16 @@ use Rattle.meaning.specs.Area.{walk_trees, walked, pushed}
 use Rattle.meaning.specs.AreaLaws.{walk_shows}
 use Rattle.theorems.specs.TheCalls.{walk_again}
 use Rattle.fields.specs.Shows.{WritesUpTo, array_by}
-use Rattle.fields.specs.Cutting.{Cutting, cutting_step, cutting_room, cutting_past, cutting_end}
+use Rattle.fields.specs.Cutting.{Cutting, cutting_step, cutting_inside, cutting_room, cutting_past, cutting_end}
 use Rattle.walk.specs.Entry.{entry_in}
 
 -- the same trees, up to the same octet
 pub upto_as : {L : Type 0} {slim : Bool} {f g : Forest} {m n r : ℕ} {p q : Pen L} → m ≡ n → f ≡ g → WritesUpTo slim m f p q r → WritesUpTo slim n g p q r
 upto_as a b h = record { covers = h.covers ∙ a; writes = writes_as (sym b) h.writes }
+
+-- what another pen laid, which had the tape meanwhile
+pub upto_of : {L : Type 0} {slim : Bool} {f : Forest} {m n : ℕ} {p q o r : Pen L} → o.tape ≡ p.tape → o.next.0 ≡ p.next.0 → r.tape ≡ q.tape → r.next.0 ≡ q.next.0 → WritesUpTo slim m f o r n → WritesUpTo slim m f p q n
+upto_of tape next left after h = record { covers = h.covers; writes = record { tape = rw (tape, left) at h.writes.tape; laid = rw (tape, next, left, after) at h.writes.laid } }
 
 -- an area in registry k, whose first octet stands at base
 module _ (k : ℕ) (area : List ℕ) (base : ℕ) where
@@ -45,14 +49,19 @@ module _ (k : ℕ) (area : List ℕ) (base : ℕ) where
 
   -- entries are laid by the pen p, which made it q, behind a place that the pen o left free; octets are left, of which the first stands at place
   module _ {L : Type 0} {slim : Bool} {o p q : Pen L} {octets : List ℕ} {place : ℕ} (skipped : Skips slim 1 o p) (c : Cutting slim entry_length (entry_in k) base area p q octets place) where
-    -- the entry that stands first has room
-    pub turn_room : {w : ℕ} → Some w ≡ complete (entry_length octets) → 0 < length area → HasRoom slim o (size (walked usual k area base))
-        → (2 ≤ length (take w octets)) × HasRoom slim q (size (entry_in k (take w octets) place))
-    turn_room {w} is some room =
+    -- the entry that stands first has room, and its octets stand where those of the area do
+    pub turn_room : {w : ℕ} → Some w ≡ complete (entry_length octets) → HasRoom slim o (size (walked usual k area base))
+        → (2 ≤ length (take w octets)) × HasRoom slim q (size (entry_in k (take w octets) place)) × (base + length area < 2 ^ 32 → place + length (take w octets) < 2 ^ 32)
+    turn_room {w} is room =
         let here = complete_is (entry_length octets) is in
-        let long : length (take w octets) ≡ w = length-take-le w octets (omega (arith, here.0, entry_fits octets)) in
-        let asked = room_as o (sym (walk_some some)) room in
-        (omega (arith, long, here.0, entry_two octets here.1), cutting_room entry_fits 4 k w asked skipped c here.0 (omega (arith, here)))
+        let inside = cutting_inside c in
+        let fits : w ≤ length octets = omega (arith, here.0, entry_fits octets) in
+        let long : length (take w octets) ≡ w = length-take-le w octets fits in
+        let asked = room_as o (sym (walk_some (omega (arith, here, fits, inside.0)))) room in (
+          omega (arith, long, here.0, entry_two octets here.1),
+          cutting_room entry_fits 4 k w asked skipped c here.0 (omega (arith, here)),
+          λ near. omega (arith, near, long, fits, inside),
+        )
 
     -- a turn: the entry that stands first is laid, and there are the octets behind it
     pub turn_made : {r : Pen L} {w : ℕ} → Some w ≡ complete (entry_length octets) → Writes slim (entry_in k (take w octets) place) q r

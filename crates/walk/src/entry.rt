@@ -83,6 +83,7 @@ impl<'a> Entry<'a> {
     }
 
     // Lays what the entry has around the records of its decoder: what follows these, and the object, the type and the length in front.
+    #[inline(always)]
     pub fn complete<L: Layout>(self, taken: Option<usize>, at: Position, pen: &mut Pen<'_, L>)
         requires { HasRoom L.SLIM pen.old (size (of (rest_in taken) self.octets)) × (at.0 + 3 ≤ pen.old.next.0) }
         ensures { Completes L.SLIM taken at.0 self.entry.octets pen.old pen.new }

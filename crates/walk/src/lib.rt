@@ -2,7 +2,7 @@
 // type, since the check takes no generic functions that call one another with other types.
 #![tactic(auto)]
 
-ghost use Rattle.std.specs.Prelude.{◌≡◌, ◌+◌, ◌≤◌, cond, eqb, length};
+ghost use Rattle.std.specs.Prelude.{◌≡◌, ◌+◌, ◌<◌, ◌≤◌, cond, eqb, length};
 ghost use Rattle.registry.specs.Registry.{number_of};
 ghost use Rattle.tape.specs.Forest.{size};
 ghost use Rattle.store.specs.Pen.{HasRoom, Writes};
@@ -17,10 +17,8 @@ ghost use Rattle.readings.specs.Reading.{by_row, Asks, Reads};
 ghost use Rattle.walk.specs.Entry.{entry_in, reading_as, tail_at, IsOneLeaf};
 
 use crate::entry::{Entry, raw};
-use decoders::binding::binding;
 use decoders::prefix::{end_head, prefix};
 use decoders::router_capability::router_capability;
-use decoders::srv6_sid::srv6_sid;
 use fields::part::{number, octets};
 use fields::piece::entry_length;
 use fields::stretch::Stretch;
@@ -33,6 +31,7 @@ use tape::label::Label;
 use tape::shape::Shape;
 
 pub mod entry;
+pub mod plain;
 
 // The SRv6 tail (RFC 9352, section 7.2): 16 octets of SID, a length octet, and an inner area, which is walked in registry 4.
 // Gives the octets that are taken.
@@ -115,19 +114,17 @@ fn router_value<L: Layout>(value: Stretch, kind: u8, pen: &mut Pen<'_, L>) -> Op
     Some(n)
 }
 
-// A value by its registry and its type; no type of registry 5 is read.
+// A value of the registries 0 to 2, by its registry and its type.
 #[cycle(nesting)]
 fn decode<L: Layout>(value: Stretch, kind: u8, pen: &mut Pen<'_, L>) -> Option<usize>
-    requires { Asks L.SLIM (of (reading_as kind) value) pen.old }
+    requires { (number_of value.registry < 3) × Asks L.SLIM (of (reading_as kind) value) pen.old }
     ensures { Reads L.SLIM (of (reading_as kind) value.entry) pen.old pen.new result }
 {
     match value.registry {
         Registry::Neighbor => neighbor_value(value, kind, pen),
         Registry::Prefix => prefix_value(value, kind, pen),
         Registry::RouterCapability => router_value(value, kind, pen),
-        Registry::Binding => binding(value, kind, pen),
-        Registry::Srv6Sid => srv6_sid(value, kind, pen),
-        Registry::Unregistered => None,
+        _ => None,
     }
 }
 
@@ -141,10 +138,10 @@ fn one_leaf(value: Stretch, kind: u8) -> Option<OneLeaf>
     }
 }
 
-// Lays an entry.
+// Lays an entry of these registries.
 #[cycle(nesting)]
 fn lay_entry<L: Layout>(octets: Stretch, pen: &mut Pen<'_, L>)
-    requires { (2 ≤ length octets.octets.now) × HasRoom L.SLIM pen.old (size (of entry_in octets)) }
+    requires { (number_of octets.registry < 3) × (2 ≤ length octets.octets.now) × HasRoom L.SLIM pen.old (size (of entry_in octets)) }
     ensures { Writes L.SLIM (of entry_in octets.entry) pen.old pen.new }
 {
     let entry = Entry::of(octets);
@@ -159,16 +156,12 @@ fn lay_entry<L: Layout>(octets: Stretch, pen: &mut Pen<'_, L>)
     entry.complete(taken, at, pen);
 }
 
-// Lays the complete entries of an area, and the `sub_tlvs` array in front of them; nothing where the area is empty.
-// Gives the octets that they cover.
+// Lays the complete entries of an area of these registries, and the `sub_tlvs` array in front of them. Gives the octets that they cover.
 #[cycle(nesting)]
-pub fn walk<L: Layout>(area: Stretch, pen: &mut Pen<'_, L>) -> usize
-    requires { HasRoom L.SLIM pen.old (size (of (walked usual) area)) }
+fn entries<L: Layout>(area: Stretch, pen: &mut Pen<'_, L>) -> usize
+    requires { (number_of area.registry < 3) × (0 < length area.octets.now) × HasRoom L.SLIM pen.old (size (of (walked usual) area)) }
     ensures { WritesUpTo L.SLIM (covered (octets_of area.entry)) (of (walked usual) area.entry) pen.old pen.new result }
 {
-    if area.octets.len() == 0 {
-        return 0;
-    }
     let at = pen.next;
     pen.skip(1);
     let mut left = area;
@@ -182,6 +175,22 @@ pub fn walk<L: Layout>(area: Stretch, pen: &mut Pen<'_, L>) -> usize
         area.content(Label::SubTlvs, Shape::Array, 0, covered, 0),
     );
     covered
+}
+
+// Lays the walk of an area: nothing where it is empty. Gives the octets that its complete entries cover. Where values hold no area,
+// the entries are laid outside this cycle.
+#[cycle(nesting)]
+pub fn walk<L: Layout>(area: Stretch, pen: &mut Pen<'_, L>) -> usize
+    requires { HasRoom L.SLIM pen.old (size (of (walked usual) area)) }
+    ensures { WritesUpTo L.SLIM (covered (octets_of area.entry)) (of (walked usual) area.entry) pen.old pen.new result }
+{
+    if area.octets.len() == 0 {
+        return 0;
+    }
+    if 3 <= area.registry.number() {
+        return plain::walk(area, pen);
+    }
+    entries(area, pen)
 }
 
 // Lays the walk of an area, and one `raw` record beside it for the octets that it does not cover, if there are any.

@@ -26,16 +26,15 @@ use Rattle.walk.specs.Rest.{rest_in}
 use Rattle.walk.specs.Entry.{entry_in, value_in, leaf_entry}
 use Rattle.walk.specs.EntryLaws.{value_reading, leaf_told, entry_size, entry_room, rest_room, head_places, leaf_is}
 use Rattle.walk.specs.NestedLaws.{head_room, nested_room, nested_made, end_x_head_size, end_x, tail_some, tail_alone, inner_room, inner_made, behind_is, behind_made}
+use Rattle.walk.specs.PlainLaws.{other_plain}
 use Rattle.walk.specs.WalkLaws.{upto_as, walk_none, walk_some, turn_room, turn_made, area_past, walk_made, push_room, remainder_room, push_made}
 use Rattle.walk.proofs.+nesting.Goals as goal
 
--- decode: no type of registry 5 is read
+-- decode: no other registry
 
-pub decode-returns-in-Unregistered : goal.decode-returns-in-Unregistered
-unfolding table
-decode-returns-in-Unregistered g t c =
-    let v = c.args.value in
-    reads_as (ap (λ (r : Registry). reading (number_of r) c.args.kind v.octets.now v.base.0) c.in-Unregistered.is) (of_unknown 5 c.args.kind 5 v.octets.now v.base.0 c.args.pen.now tt)
+pub decode-returns-in_default : goal.decode-returns-in_default
+decode-returns-in_default g t c =
+    absurd (omega (arith, c.requires.0, other_plain c.args.value.registry c.in_default.not-Neighbor c.in_default.not-Prefix c.in_default.not-RouterCapability))
 
 -- lay_entry: one leaf, or the value and the entry around it
 
@@ -47,8 +46,8 @@ lay_entry-lay_leaf-requires g t c =
     let from = c.from-value.ensures in
     let kind = c.of-entry.result.of_kind ∙ ap (λ (s : Stretch). get_or s.octets.now 0 0) made in
     let is = leaf_told _ _ _ (e.base.0 + 2) (ap number_of from.registry) from.octets kind (c.in-Some.ensures (e.base.0 + 2)) in
-    let four = ap size (leaf_is k e.octets.now e.base.0 _ _ _ is c.requires.0) in
-    record { fits = omega (arith, c.requires.1.fits, four); small = c.requires.1.small }
+    let four = ap size (leaf_is k e.octets.now e.base.0 _ _ _ is c.requires.1) in
+    record { fits = omega (arith, c.requires.2.fits, four); small = c.requires.2.small }
 
 pub lay_entry-returns-in-Some : goal.lay_entry-returns-in-Some
 lay_entry-returns-in-Some g t c =
@@ -58,12 +57,12 @@ lay_entry-returns-in-Some g t c =
     let from = c.from-value.ensures in
     let kind = c.of-entry.result.of_kind ∙ ap (λ (s : Stretch). get_or s.octets.now 0 0) made in
     let is = leaf_told _ _ _ (e.base.0 + 2) (ap number_of from.registry) from.octets kind (c.in-Some.ensures (e.base.0 + 2)) in
-    writes_as (leaf_is k e.octets.now e.base.0 _ _ _ is c.requires.0 ∙ sym (ap (of (leaf_entry c.in-Some.one)) made)) c.lay_leaf.ensures
+    writes_as (leaf_is k e.octets.now e.base.0 _ _ _ is c.requires.1 ∙ sym (ap (of (leaf_entry c.in-Some.one)) made)) c.lay_leaf.ensures
 
 pub lay_entry-skip-requires : goal.lay_entry-skip-requires
 lay_entry-skip-requires g t c =
     let e = c.args.octets in
-    record { fits = omega (arith, c.requires.1.fits, entry_size (number_of e.registry) e.octets.now e.base.0); small = c.requires.1.small }
+    record { fits = omega (arith, c.requires.2.fits, entry_size (number_of e.registry) e.octets.now e.base.0); small = c.requires.2.small }
 
 pub lay_entry-decode-taken-requires : goal.lay_entry-decode-taken-requires
 lay_entry-decode-taken-requires g t c κs within =
@@ -74,7 +73,7 @@ lay_entry-decode-taken-requires g t c κs within =
     let kind = c.of-entry.result.of_kind ∙ ap (λ (s : Stretch). get_or s.octets.now 0 0) made in
     let read = value_reading c.from-value.result from.registry from.octets from.base kind in
     let fewer = ap length from.octets in
-    (omega (arith, c.decreases, fewer, length-drop 2 e.octets.now, c.requires.0), (within, asks_as c.skip.new.self (sym read) (entry_room k e.octets.now e.base.0 c.skip.ensures c.requires.1)))
+    (omega (arith, c.decreases, fewer, length-drop 2 e.octets.now, c.requires.1), (within, (omega (arith, c.requires.0, ap number_of from.registry), asks_as c.skip.new.self (sym read) (entry_room k e.octets.now e.base.0 c.skip.ensures c.requires.2))))
 
 pub lay_entry-complete-requires : goal.lay_entry-complete-requires
 lay_entry-complete-requires g t c =
@@ -85,7 +84,7 @@ lay_entry-complete-requires g t c =
     let kind = c.of-entry.result.of_kind ∙ ap (λ (s : Stretch). get_or s.octets.now 0 0) made in
     let read = value_reading c.from-value.result from.registry from.octets from.base kind in
     let decoded = reads_as (sym read) c.decode-taken.ensures in
-    let room = rest_room k e.octets.now e.base.0 c.skip.ensures decoded c.requires.1 in
+    let room = rest_room k e.octets.now e.base.0 c.skip.ensures decoded c.requires.2 in
     (room_as c.decode-taken.new.pen (ap (of (rest_in c.decode-taken.result)) made) room, head_places k e.octets.now e.base.0 c.skip.ensures decoded)
 
 pub lay_entry-returns : goal.lay_entry-returns
@@ -289,65 +288,70 @@ push-raw-requires g t c = let a = c.args.area in remainder_room (number_of a.reg
 pub push-returns : goal.push-returns
 push-returns g t c = let a = c.args.area in push_made (number_of a.registry) a.octets.now a.base.0 c.walk-covered.ensures c.raw.ensures
 
--- walk: nothing, or each entry, and the array in front of them
+-- entries: each entry, and the array in front of them
 
-pub walk-returns-then-area-eq0 : goal.walk-returns-then-area-eq0
-walk-returns-then-area-eq0 g t c = let a = c.args.area in walk_none (number_of a.registry) a.octets.now a.base.0 c.args.pen.now c.if-area-eq0.true
-
-pub walk-skip-requires : goal.walk-skip-requires
-walk-skip-requires g t c =
+pub entries-skip-requires : goal.entries-skip-requires
+entries-skip-requires g t c =
     let a = c.args.area in
-    let some = walk_some (number_of a.registry) a.octets.now a.base.0 (omega (arith, c.if-area-eq0.false)) in
-    record { fits = omega (arith, c.requires.fits, ap size some); small = c.requires.small }
+    let some = walk_some (number_of a.registry) a.octets.now a.base.0 c.requires.1 in
+    record { fits = omega (arith, c.requires.2.fits, ap size some); small = c.requires.2.small }
 
-pub walk-loop-n-init : goal.walk-loop-n-init
-walk-loop-n-init g t c = (refl, cutting_start _ _ _ _ _)
+pub entries-loop-n-init : goal.entries-loop-n-init
+entries-loop-n-init g t c = (refl, cutting_start _ _ _ _ _)
 
-pub walk-first-requires : goal.walk-first-requires
-walk-first-requires g t c =
+pub entries-first-requires : goal.entries-first-requires
+entries-first-requires g t c =
     let left = c.loop-n.left.octets.now in
     omega (arith, complete_is (entry_length left) c.in-Some.ensures, entry_fits left)
 
-pub walk-lay_entry-requires : goal.walk-lay_entry-requires
-walk-lay_entry-requires g t c κs within =
+pub entries-lay_entry-requires : goal.entries-lay_entry-requires
+entries-lay_entry-requires g t c κs within =
     let a = c.args.area in
     let left = c.loop-n.left.octets.now in
     let first = c.first.ensures in
     let here = complete_is (entry_length left) c.in-Some.ensures in
     let long = ap length first.octets ∙ length-take-le c.in-Some.n left (omega (arith, here.0, entry_fits left)) in
-    let turn = turn_room (number_of a.registry) a.octets.now a.base.0 c.skip.ensures c.loop-n.invariant.1 c.in-Some.ensures (omega (arith, c.if-area-eq0.false)) c.requires in
+    let turn = turn_room (number_of a.registry) a.octets.now a.base.0 c.skip.ensures c.loop-n.invariant.1 c.in-Some.ensures c.requires.2 in
     let inside = cutting_inside c.loop-n.invariant.1 in (
       omega (arith, c.decreases, long, here.0, entry_fits left, inside.0),
-      (within, (omega (arith, turn.0, ap length first.octets), room_as c.loop-n.pen (of_is entry_in c.first.result (first.registry ∙ c.loop-n.invariant.0) first.octets first.base) turn.1)),
+      (within, (omega (arith, c.requires.0, ap number_of (first.registry ∙ c.loop-n.invariant.0)), omega (arith, turn.0, ap length first.octets), room_as c.loop-n.pen (of_is entry_in c.first.result (first.registry ∙ c.loop-n.invariant.0) first.octets first.base) turn.1)),
     )
 
-pub walk-from-left-requires : goal.walk-from-left-requires
-walk-from-left-requires g t c =
+pub entries-from-left-requires : goal.entries-from-left-requires
+entries-from-left-requires g t c =
     let left = c.loop-n.left.octets.now in
     omega (arith, complete_is (entry_length left) c.in-Some.ensures, entry_fits left)
 
-pub walk-loop-n-smaller : goal.walk-loop-n-smaller
-walk-loop-n-smaller g t c =
+pub entries-loop-n-smaller : goal.entries-loop-n-smaller
+entries-loop-n-smaller g t c =
     let left = c.loop-n.left.octets.now in
     let fewer = ap length c.from-left.ensures.octets in
     omega (arith, fewer, length-drop c.in-Some.n left, complete_is (entry_length left) c.in-Some.ensures, entry_fits left)
 
-pub walk-loop-n-preserved : goal.walk-loop-n-preserved
-walk-loop-n-preserved g t c =
+pub entries-loop-n-preserved : goal.entries-loop-n-preserved
+entries-loop-n-preserved g t c =
     let a = c.args.area in
     let first = c.first.ensures in
     let from = c.from-left.ensures in
     let wrote = writes_as (sym (of_is entry_in c.first.result (first.registry ∙ c.loop-n.invariant.0) first.octets first.base)) c.lay_entry.ensures in
     (from.registry ∙ c.loop-n.invariant.0, rw (from.octets, from.base) (turn_made (number_of a.registry) a.octets.now a.base.0 c.skip.ensures c.loop-n.invariant.1 c.in-Some.ensures wrote))
 
-pub walk-container-requires : goal.walk-container-requires
-walk-container-requires g t c =
+pub entries-container-requires : goal.entries-container-requires
+entries-container-requires g t c =
     let a = c.args.area in
-    let past = area_past (number_of a.registry) a.octets.now a.base.0 c.skip.ensures c.loop-n.invariant.1 (omega (arith, c.if-area-eq0.false)) c.requires in
+    let past = area_past (number_of a.registry) a.octets.now a.base.0 c.skip.ensures c.loop-n.invariant.1 c.requires.1 c.requires.2 in
     (past.0, past.1, c.content.ensures.near)
 
-pub walk-returns : goal.walk-returns
-walk-returns g t c =
+pub entries-returns : goal.entries-returns
+entries-returns g t c =
     let a = c.args.area in
     let put = rw c.content.ensures.content at c.container.ensures in
-    walk_made (number_of a.registry) a.octets.now a.base.0 c.skip.ensures c.loop-n.invariant.1 (omega (arith, c.if-area-eq0.false)) c.in_default.ensures (omega arith) put
+    walk_made (number_of a.registry) a.octets.now a.base.0 c.skip.ensures c.loop-n.invariant.1 c.requires.1 c.in_default.ensures (omega arith) put
+
+-- walk: nothing, or the entries
+
+pub walk-returns-then-area-eq0 : goal.walk-returns-then-area-eq0
+walk-returns-then-area-eq0 g t c = let a = c.args.area in walk_none (number_of a.registry) a.octets.now a.base.0 c.args.pen.now c.if-area-eq0.true
+
+pub walk-entries-requires : goal.walk-entries-requires
+walk-entries-requires g t c κs within = (omega (arith, c.decreases), (within, (omega (arith, c.number.ensures, c.if-number-ge3.false), omega (arith, c.if-area-eq0.false), c.requires)))

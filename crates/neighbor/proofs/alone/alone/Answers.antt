@@ -15,11 +15,11 @@ returns-in-3 c = part_alone 3 c.args.kind c.args.value.now Label.admin_group u32
 
 pub returns-in-6 : goal.returns-in-6
 unfolding usual fields_of table least_in fields_in
-returns-in-6 c = part_alone 6 c.args.kind c.args.value.now Label.ipv4_interface_address ipv4 4 c.address_alone.result (same_type c.args.value.now c.in-6.is) refl refl (omega arith) c.address_alone.ensures
+returns-in-6 c = part_alone 6 c.args.kind c.args.value.now Label.ipv4_interface_address ipv4 4 c.address_alone.result (same_type c.args.value.now c.in-6.is) refl refl (omega arith) c.address_alone.ensures.told
 
 pub returns-in-8 : goal.returns-in-8
 unfolding usual fields_of table least_in fields_in
-returns-in-8 c = part_alone 8 c.args.kind c.args.value.now Label.ipv4_neighbor_address ipv4 4 c.address_alone-in-8.result (same_type c.args.value.now c.in-8.is) refl refl (omega arith) c.address_alone-in-8.ensures
+returns-in-8 c = part_alone 8 c.args.kind c.args.value.now Label.ipv4_neighbor_address ipv4 4 c.address_alone-in-8.result (same_type c.args.value.now c.in-8.is) refl refl (omega arith) c.address_alone-in-8.ensures.told
 
 pub returns-in-9 : goal.returns-in-9
 unfolding usual fields_of table least_in fields_in
@@ -31,11 +31,11 @@ returns-in-10 c = part_alone 10 c.args.kind c.args.value.now Label.max_reservabl
 
 pub returns-in-12 : goal.returns-in-12
 unfolding usual fields_of table least_in fields_in
-returns-in-12 c = part_alone 12 c.args.kind c.args.value.now Label.ipv6_interface_address ipv6 16 c.address_alone-in-12.result (same_type c.args.value.now c.in-12.is) refl refl (omega arith) c.address_alone-in-12.ensures
+returns-in-12 c = part_alone 12 c.args.kind c.args.value.now Label.ipv6_interface_address ipv6 16 c.address_alone-in-12.result (same_type c.args.value.now c.in-12.is) refl refl (omega arith) c.address_alone-in-12.ensures.told
 
 pub returns-in-13 : goal.returns-in-13
 unfolding usual fields_of table least_in fields_in
-returns-in-13 c = part_alone 13 c.args.kind c.args.value.now Label.ipv6_neighbor_address ipv6 16 c.address_alone-in-13.result (same_type c.args.value.now c.in-13.is) refl refl (omega arith) c.address_alone-in-13.ensures
+returns-in-13 c = part_alone 13 c.args.kind c.args.value.now Label.ipv6_neighbor_address ipv6 16 c.address_alone-in-13.result (same_type c.args.value.now c.in-13.is) refl refl (omega arith) c.address_alone-in-13.ensures.told
 
 pub returns-in-18 : goal.returns-in-18
 unfolding usual fields_of table least_in fields_in
