@@ -1,5 +1,5 @@
 -- The registries whose values hold no area.
-use Rattle.std.specs.Prelude.{◌≡◌, refl, ℕ, ◌≤◌}
+use Rattle.std.specs.Prelude.{◌≡◌, refl, ◌≤◌}
 use Rattle.std.proofs.Common.{arith}
 use Rattle.registry.specs.Registry.{number_of}
 use Rattle.registry.specs.declared.Registry.{Registry}

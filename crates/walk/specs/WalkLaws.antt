@@ -28,7 +28,8 @@ pub upto_as : {L : Type 0} {slim : Bool} {f g : Forest} {m n r : ℕ} {p q : Pen
 upto_as a b h = record { covers = h.covers ∙ a; writes = writes_as (sym b) h.writes }
 
 -- what another pen laid, which had the tape meanwhile
-pub upto_of : {L : Type 0} {slim : Bool} {f : Forest} {m n : ℕ} {p q o r : Pen L} → o.tape ≡ p.tape → o.next.0 ≡ p.next.0 → r.tape ≡ q.tape → r.next.0 ≡ q.next.0 → WritesUpTo slim m f o r n → WritesUpTo slim m f p q n
+pub upto_of : {L : Type 0} {slim : Bool} {f : Forest} {m n : ℕ} {p q o r : Pen L} → o.tape ≡ p.tape → o.next.0 ≡ p.next.0 → r.tape ≡ q.tape → r.next.0 ≡ q.next.0
+    → WritesUpTo slim m f o r n → WritesUpTo slim m f p q n
 upto_of tape next left after h = record { covers = h.covers; writes = record { tape = rw (tape, left) at h.writes.tape; laid = rw (tape, next, left, after) at h.writes.laid } }
 
 -- an area in registry k, whose first octet stands at base

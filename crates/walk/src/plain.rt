@@ -11,7 +11,7 @@ ghost use Rattle.meaning.specs.Area.{walked};
 ghost use Rattle.fields.specs.Shows.{WritesUpTo};
 ghost use Rattle.fields.specs.Stretches.{of, octets_of};
 ghost use Rattle.readings.specs.Reading.{Asks, Reads};
-ghost use Rattle.walk.specs.Entry.{entry_in, entry_of, reading_as};
+ghost use Rattle.walk.specs.Entry.{entry_of, reading_as};
 
 use crate::entry::Entry;
 use decoders::binding::binding;

@@ -1,7 +1,6 @@
-use Rattle.std.proofs.Common.{refl, sym, ap, ◌∙◌, ◌+◌, arith, length, length-drop, take, drop, get_or}
+use Rattle.std.proofs.Common.{refl, sym, ap, ◌∙◌, ◌+◌, ◌<◌, ◌≤◌, arith, length, length-drop, take, drop, get_or}
 use Rattle.std.proofs.Math.Seq.{length-take-le}
 use Rattle.registry.specs.Registry.{number_of}
-use Rattle.registry.specs.declared.Registry.{Registry}
 use Rattle.tape.specs.Forest.{size, ◌⧺◌}
 use Rattle.tape.specs.ForestLaws.{size-⧺}
 use Rattle.store.specs.PenLaws.{writes_as, writes_then, room_as, room_behind}
@@ -18,8 +17,8 @@ use Rattle.fields.specs.Stretches.{of}
 use Rattle.fields.specs.declared.stretch.Stretch.{Stretch}
 use Rattle.fields.specs.StretchLaws.{of_is}
 use Rattle.fields.specs.Cutting.{cutting_start, cutting_inside}
-use Rattle.readings.specs.Reading.{reading_of, reading}
-use Rattle.readings.specs.ReadingLaws.{row_short, of_type, of_unknown, asks_type, reads_as, asks_as}
+use Rattle.readings.specs.Reading.{reading_of}
+use Rattle.readings.specs.ReadingLaws.{row_short, of_type, asks_type, reads_as, asks_as}
 use Rattle.readings.specs.Rows.{system_id, end_x_head, end_head}
 use Rattle.fields.specs.Shows.{number_at}
 use Rattle.walk.specs.Rest.{rest_in}
@@ -73,7 +72,9 @@ lay_entry-decode-taken-requires g t c κs within =
     let kind = c.of-entry.result.of_kind ∙ ap (λ (s : Stretch). get_or s.octets.now 0 0) made in
     let read = value_reading c.from-value.result from.registry from.octets from.base kind in
     let fewer = ap length from.octets in
-    (omega (arith, c.decreases, fewer, length-drop 2 e.octets.now, c.requires.1), (within, (omega (arith, c.requires.0, ap number_of from.registry), asks_as c.skip.new.self (sym read) (entry_room k e.octets.now e.base.0 c.skip.ensures c.requires.2))))
+    let below : number_of c.from-value.result.registry < 3 = omega (arith, c.requires.0, ap number_of from.registry) in
+    let room = entry_room k e.octets.now e.base.0 c.skip.ensures c.requires.2 in
+    (omega (arith, c.decreases, fewer, length-drop 2 e.octets.now, c.requires.1), (within, (below, asks_as c.skip.new.self (sym read) room)))
 
 pub lay_entry-complete-requires : goal.lay_entry-complete-requires
 lay_entry-complete-requires g t c =
@@ -312,10 +313,12 @@ entries-lay_entry-requires g t c κs within =
     let here = complete_is (entry_length left) c.in-Some.ensures in
     let long = ap length first.octets ∙ length-take-le c.in-Some.n left (omega (arith, here.0, entry_fits left)) in
     let turn = turn_room (number_of a.registry) a.octets.now a.base.0 c.skip.ensures c.loop-n.invariant.1 c.in-Some.ensures c.requires.2 in
-    let inside = cutting_inside c.loop-n.invariant.1 in (
-      omega (arith, c.decreases, long, here.0, entry_fits left, inside.0),
-      (within, (omega (arith, c.requires.0, ap number_of (first.registry ∙ c.loop-n.invariant.0)), omega (arith, turn.0, ap length first.octets), room_as c.loop-n.pen (of_is entry_in c.first.result (first.registry ∙ c.loop-n.invariant.0) first.octets first.base) turn.1)),
-    )
+    let inside = cutting_inside c.loop-n.invariant.1 in
+    let same = first.registry ∙ c.loop-n.invariant.0 in
+    let below : number_of c.first.result.registry < 3 = omega (arith, c.requires.0, ap number_of same) in
+    let two : 2 ≤ length c.first.result.octets.now = omega (arith, turn.0, ap length first.octets) in
+    let room = room_as c.loop-n.pen (of_is entry_in c.first.result same first.octets first.base) turn.1 in
+    (omega (arith, c.decreases, long, here.0, entry_fits left, inside.0), (within, (below, two, room)))
 
 pub entries-from-left-requires : goal.entries-from-left-requires
 entries-from-left-requires g t c =

@@ -31,11 +31,13 @@ returns-in-10 c = part_alone 10 c.args.kind c.args.value.now Label.max_reservabl
 
 pub returns-in-12 : goal.returns-in-12
 unfolding usual fields_of table least_in fields_in
-returns-in-12 c = part_alone 12 c.args.kind c.args.value.now Label.ipv6_interface_address ipv6 16 c.address_alone-in-12.result (same_type c.args.value.now c.in-12.is) refl refl (omega arith) c.address_alone-in-12.ensures.told
+returns-in-12 c =
+    part_alone 12 c.args.kind c.args.value.now Label.ipv6_interface_address ipv6 16 c.address_alone-in-12.result (same_type c.args.value.now c.in-12.is) refl refl (omega arith) c.address_alone-in-12.ensures.told
 
 pub returns-in-13 : goal.returns-in-13
 unfolding usual fields_of table least_in fields_in
-returns-in-13 c = part_alone 13 c.args.kind c.args.value.now Label.ipv6_neighbor_address ipv6 16 c.address_alone-in-13.result (same_type c.args.value.now c.in-13.is) refl refl (omega arith) c.address_alone-in-13.ensures.told
+returns-in-13 c =
+    part_alone 13 c.args.kind c.args.value.now Label.ipv6_neighbor_address ipv6 16 c.address_alone-in-13.result (same_type c.args.value.now c.in-13.is) refl refl (omega arith) c.address_alone-in-13.ensures.told
 
 pub returns-in-18 : goal.returns-in-18
 unfolding usual fields_of table least_in fields_in

@@ -1,5 +1,5 @@
 -- The value, and the entry around it; all of it in the registry of the area.
-use Rattle.std.proofs.Common.{refl, sym, ap, ◌∙◌, arith, length, length-drop, get_or}
+use Rattle.std.proofs.Common.{refl, sym, ap, ◌∙◌, arith, length, get_or}
 use Rattle.registry.specs.Registry.{number_of}
 use Rattle.store.specs.PenLaws.{writes_as, room_as}
 use Rattle.fields.specs.Stretches.{of}
